@@ -1,0 +1,5 @@
+pub mod Orders
+pub mod Numbers
+pub mod Fillings
+pub mod Joins
+pub mod Stamps

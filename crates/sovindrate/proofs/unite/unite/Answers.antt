@@ -1,0 +1,39 @@
+use mathlib.Core.Path.{_≡_, sym, ap, _∙_}
+use native.Mathlib.Omega.{arith}
+use lib.ListN.{length, length-set}
+use Rattle.std.specs.Of.Vec.{vec-items}
+use Rattle.sovindrate.specs.Sheets.{meaning}
+use Rattle.sovindrate.proofs.Uniting.{same-within, before-within, set-united, insert-united, length-inserted}
+use Rattle.sovindrate.proofs.unite.unite.Needs as need
+
+pub index-requires : need.index-requires
+index-requires g c κs =
+    let settings = c .args .settings .now in
+    omega (arith, settings .ok .0, same-within (g .K·Key .bytes) (g .V·Value .bytes) (g .K·Key .kind) (g .V·Value .kind) (c .args .key) (c .args .value) (vec-items settings) _ (c .in-Same .i) (c .as-slice .ensures .value) (c .in-Same .ensures tt))
+
+pub index-mut-requires : need.index-mut-requires
+index-mut-requires g c κs =
+    let settings = c .args .settings .now in
+    omega (arith, settings .ok .0, same-within (g .K·Key .bytes) (g .V·Value .bytes) (g .K·Key .kind) (g .V·Value .kind) (c .args .key) (c .args .value) (vec-items settings) _ (c .in-Same .i) (c .as-slice .ensures .value) (c .in-Same .ensures tt))
+
+pub insert-requires : need.insert-requires
+insert-requires g c κs =
+    let settings = c .args .settings .now in
+    omega (arith, settings .ok .0, before-within (g .K·Key .bytes) (g .V·Value .bytes) (g .K·Key .kind) (g .V·Value .kind) (c .args .key) (c .args .value) (vec-items settings) _ (c .in-Before .i) (c .as-slice .ensures .value) (c .in-Before .ensures tt))
+
+pub returns-in-Same : need.returns-in-Same
+returns-in-Same g c = (
+  set-united (g .K·Key .bytes) (g .V·Value .bytes) (g .K·Key .kind) (g .V·Value .kind) (c .args .key) (c .args .value) (vec-items (c .args .settings .now)) _ (c .in-Same .i) (c .as-slice .ensures .value)
+      (c .index .result .now) (c .join-joined .result) (c .index .ensures) (c .join-joined .ensures) (c .in-Same .ensures tt),
+  simp length-set (omega arith),
+)
+
+pub returns-in-Continue-insert : need.returns-in-Continue-insert
+returns-in-Continue-insert g c =
+    let xs = vec-items (c .args .settings .now) in
+    let st = c .in-Before .ensures tt in
+    let items = c .in-Continue-insert .ensures tt .items in (
+      ap (meaning (g .K·Key .bytes) (g .V·Value .bytes)) items
+          ∙ insert-united (g .K·Key .bytes) (g .V·Value .bytes) (g .K·Key .kind) (g .V·Value .kind) (c .args .key) (c .args .value) xs _ (c .in-Before .i) (c .as-slice .ensures .value) st,
+      ap length items ∙ length-inserted xs (c .in-Before .i) _ (before-within (g .K·Key .bytes) (g .V·Value .bytes) (g .K·Key .kind) (g .V·Value .kind) (c .args .key) (c .args .value) xs _ (c .in-Before .i) (c .as-slice .ensures .value) st),
+    )
