@@ -1,3 +1,4 @@
+pub mod Ones
 pub mod Orders
 pub mod Numbers
 pub mod Fillings

@@ -1,30 +1,9 @@
-// The kinds of keys and values that a settings store can hold.
-mod bobbin;
-mod facts;
-mod flags;
-mod id;
+// What a kind of key and a kind of value answer, and why a call is refused.
 mod key;
-mod limit;
-mod path;
 mod refusal;
-mod register;
 mod shown;
 mod value;
 
-pub use bobbin::Bobbin;
-pub use bobbin::BobbinKey;
-pub use facts::later_register_wins;
-pub use facts::path_a_hashes_to_e40c292c;
-pub use flags::Flags;
-pub use flags::FlagsValue;
-pub use id::Id;
-pub use id::IdKey;
 pub use key::Key;
-pub use limit::Limit;
-pub use limit::LimitValue;
-pub use path::Path;
-pub use path::PathKey;
 pub use refusal::Refusal;
-pub use register::Register;
-pub use register::RegisterValue;
 pub use value::Value;

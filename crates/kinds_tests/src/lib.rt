@@ -2,23 +2,23 @@
 
 #[cfg(test)]
 mod tests {
-    use kinds::Bobbin;
-    use kinds::BobbinKey;
-    use kinds::Flags;
-    use kinds::FlagsValue;
-    use kinds::Id;
-    use kinds::IdKey;
+    use keys::Bobbin;
+    use keys::BobbinKey;
+    use keys::Id;
+    use keys::IdKey;
+    use keys::Path;
+    use keys::PathKey;
     use kinds::Key;
-    use kinds::Limit;
-    use kinds::LimitValue;
-    use kinds::Path;
-    use kinds::PathKey;
     use kinds::Refusal;
-    use kinds::Register;
-    use kinds::RegisterValue;
     use kinds::Value;
     use std::cmp::Ordering;
     use std::test::*;
+    use values::Flags;
+    use values::FlagsValue;
+    use values::Limit;
+    use values::LimitValue;
+    use values::Register;
+    use values::RegisterValue;
 
     fn path(text: &[u8]) -> Result<Path, Fail> {
         match Path::new(text) {

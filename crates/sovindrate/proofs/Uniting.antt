@@ -55,7 +55,7 @@ module _ (K : KeyKind) (V : ValueKind) (k : List ℕ) (row : List Pair) where
       ∙ ap (λ r. r ++ (pair k v ∷ [])) (take-all i row h ∙ sym (take-all (length row) row (omega arith)))
       ∙ ap (λ r. take (length row) row ++ (pair k v ∷ r)) (sym (drop-all (length row) row (omega arith)))
 
-pub length-inserted : {A : Type 0} (xs : List A) (i : ℕ) (x : A) → i ≤ length xs → length (inserted xs i x) ≡ length xs + 1
+length-inserted : {A : Type 0} (xs : List A) (i : ℕ) (x : A) → i ≤ length xs → length (inserted xs i x) ≡ length xs + 1
 length-inserted xs i x h = simp (length-append, length-take, length-drop) (omega arith)
 
 module _ {X Y : Type 0} (kb : X → List ℕ) (vb : Y → List ℕ) where
@@ -108,8 +108,8 @@ module _ {X Y : Type 0} (kb : X → List ℕ) (vb : Y → List ℕ) where
         let old : V .join (vb (s .value)) (vb v) ≡ V .join (getD (meaning kb vb xs) i blank .value) (vb v) = ap (λ (p : Pair). V .join (p .value) (vb v)) (sym is) in
         map-set f xs i (record { key = k; value = w }) ∙ ap (λ x. set (meaning kb vb xs) i (pair (kb k) x)) (joined ∙ old) ∙ sym (there .1 (vb v))
 
-    pub insert-united : Stands K V (kb k) (meaning kb vb ys) (Before i) →
-        meaning kb vb (inserted xs i (record { key = k; value = v })) ≡ united K V (kb k) (vb v) (meaning kb vb xs)
-    insert-united st =
+    pub insert-united : (zs : List (Setting X Y)) → zs ≡ inserted xs i (record { key = k; value = v }) → Stands K V (kb k) (meaning kb vb ys) (Before i) →
+        (meaning kb vb zs ≡ united K V (kb k) (vb v) (meaning kb vb xs)) × (length zs ≡ length xs + 1)
+    insert-united zs e st =
         let there = subst (λ l. Stands K V (kb k) (meaning kb vb l) (Before i)) whole st in
-        meaning-inserted xs i (record { key = k; value = v }) ∙ sym (there .1 (vb v))
+        (ap (meaning kb vb) e ∙ meaning-inserted xs i (record { key = k; value = v }) ∙ sym (there .1 (vb v)), ap length e ∙ length-inserted xs i _ (before-within st))

@@ -12,21 +12,21 @@ use super::lines::line_of;
 use super::sheet::Setting;
 use super::spelled::*;
 use super::unite::unite;
-use kinds::Bobbin;
-use kinds::BobbinKey;
-use kinds::Flags;
-use kinds::FlagsValue;
-use kinds::Id;
-use kinds::IdKey;
+use keys::Bobbin;
+use keys::BobbinKey;
+use keys::Id;
+use keys::IdKey;
+use keys::Path;
+use keys::PathKey;
 use kinds::Key;
-use kinds::Limit;
-use kinds::LimitValue;
-use kinds::Path;
-use kinds::PathKey;
-use kinds::Register;
-use kinds::RegisterValue;
 use kinds::Value;
 use std::alloc::Global;
+use values::Flags;
+use values::FlagsValue;
+use values::Limit;
+use values::LimitValue;
+use values::Register;
+use values::RegisterValue;
 
 // A line that a kind refused.
 #[derive(Clone, Copy)]

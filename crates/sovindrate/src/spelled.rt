@@ -2,13 +2,13 @@
 use super::fault::Fault;
 use super::fault::FaultFromAlloc;
 use super::fault::FaultFromFmt;
-use kinds::Bobbin;
-use kinds::Flags;
-use kinds::Id;
-use kinds::Limit;
-use kinds::Path;
+use keys::Bobbin;
+use keys::Id;
+use keys::Path;
 use kinds::Refusal;
-use kinds::Register;
+use values::Flags;
+use values::Limit;
+use values::Register;
 
 // Why a word is no key or value: its kind refuses it, or it is not written as its kind is.
 #[derive(Clone, Copy)]

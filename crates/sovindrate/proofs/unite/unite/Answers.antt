@@ -1,9 +1,7 @@
-use mathlib.Core.Path.{_≡_, sym, ap, _∙_}
 use native.Mathlib.Omega.{arith}
 use lib.ListN.{length, length-set}
 use Rattle.std.specs.Of.Vec.{vec-items}
-use Rattle.sovindrate.specs.Sheets.{meaning}
-use Rattle.sovindrate.proofs.Uniting.{same-within, before-within, set-united, insert-united, length-inserted}
+use Rattle.sovindrate.proofs.Uniting.{same-within, before-within, set-united, insert-united}
 use Rattle.sovindrate.proofs.unite.unite.Needs as need
 
 pub index-requires : need.index-requires
@@ -30,10 +28,5 @@ returns-in-Same g c = (
 
 pub returns-in-Continue-insert : need.returns-in-Continue-insert
 returns-in-Continue-insert g c =
-    let xs = vec-items (c .args .settings .now) in
-    let st = c .in-Before .ensures tt in
-    let items = c .in-Continue-insert .ensures tt .items in (
-      ap (meaning (g .K·Key .bytes) (g .V·Value .bytes)) items
-          ∙ insert-united (g .K·Key .bytes) (g .V·Value .bytes) (g .K·Key .kind) (g .V·Value .kind) (c .args .key) (c .args .value) xs _ (c .in-Before .i) (c .as-slice .ensures .value) st,
-      ap length items ∙ length-inserted xs (c .in-Before .i) _ (before-within (g .K·Key .bytes) (g .V·Value .bytes) (g .K·Key .kind) (g .V·Value .kind) (c .args .key) (c .args .value) xs _ (c .in-Before .i) (c .as-slice .ensures .value) st),
-    )
+    insert-united (g .K·Key .bytes) (g .V·Value .bytes) (g .K·Key .kind) (g .V·Value .kind) (c .args .key) (c .args .value) (vec-items (c .args .settings .now)) _ (c .in-Before .i) (c .as-slice .ensures .value)
+    (vec-items (c .insert .last .self)) (c .in-Continue-insert .ensures tt .items) (c .in-Before .ensures tt)

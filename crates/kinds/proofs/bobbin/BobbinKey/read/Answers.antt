@@ -1,9 +1,0 @@
-use Prim.Native.Nat.{_<_}
-use mathlib.Core.Path.{_≡_}
-use lib.ListN.{length, getD}
-use borrow.Author.Needs.{needs}
-use Rattle.bytes.proofs.Numbers.{read-byte}
-use Rattle.kinds.proofs.bobbin.BobbinKey.read.Needs as need
-
-pub returns-in-len1 : need.returns-in-len1
-returns-in-len1 c = read-byte (c .args .from .now) (search needs) (search needs)

@@ -1,0 +1,8 @@
+// A worked case, settled by the contract of a function.
+ghost use Rattle.values.specs.Facts.{Later-register-wins};
+
+pub fn later_register_wins() -> u8
+    ensures { λ _. ⌜ Later-register-wins ⌝ }
+{
+    0
+}
