@@ -1,0 +1,11 @@
+pub mod Computed
+pub mod Images
+pub mod Maps
+pub mod Marks
+pub mod Runs
+pub mod Counts
+pub mod Holding
+pub mod Room
+pub mod Sizes
+pub mod Reached
+pub mod Promises

@@ -1,0 +1,5 @@
+use Rattle.model.proofs.Computed.{worked}
+use Rattle.model.proofs.worked_cases.Needs as need
+
+pub returns : need.returns
+returns c = worked
