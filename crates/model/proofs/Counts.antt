@@ -12,7 +12,7 @@ use Rattle.bytes.specs.Rows.{same}
 use Rattle.bytes.proofs.Orders.{same-decides}
 use Rattle.model.specs.Sharing.{Marked}
 use Rattle.model.specs.Accounts.{in-row, distinct}
-use Rattle.model.specs.RunLaws.{Distinct}
+use Rattle.model.specs.Runs.{Distinct}
 
 -- ---- equal marks
 
@@ -121,3 +121,31 @@ counted-once row xs d there back =
     let more = distinct-within row xs (λ x m. member-in-row x (there x (in-row-member x row m))) in
     let less = distinct-within xs row (λ x m. member-in-row x (back x (in-row-member x xs m))) in
     omega (arith, distinct-length row d, more, less)
+
+-- ---- a row with each thing once
+
+pub once : List Marked → List Marked
+once [] = []
+once (x ∷ xs) = cond (in-row x xs) (once xs) (x ∷ once xs)
+
+pub in-once : (z : Marked) (xs : List Marked) → in-row z (once xs) ≡ in-row z xs
+unfolding once
+in-once z [] = refl
+in-once z (x ∷ xs) = go (in-row x xs) refl (in-once z xs)
+  where
+    go : (t : Bool) → in-row x xs ≡ t → in-row z (once xs) ≡ in-row z xs → in-row z (once (x ∷ xs)) ≡ in-row z (x ∷ xs)
+    go true e i = ap (λ l. in-row z l) (cond-true (in-row x xs) (once xs) (x ∷ once xs) e) ∙ i ∙ already (is-tells z x)
+      where
+        already : ((is z x ≡ true) × (z ≡ x)) ⊎ ((is z x ≡ false) × (z ≡ x → ⊥)) → in-row z xs ≡ in-row z (x ∷ xs)
+        already (inl (t, p)) = (ap (λ (y : Marked). in-row y xs) p ∙ e) ∙ sym (or-left (is z x) (in-row z xs) t)
+        already (inr (t, p)) = sym (ap (λ b. b || in-row z xs) t)
+    go false e i = ap (λ l. in-row z l) (cond-false (in-row x xs) (once xs) (x ∷ once xs) e) ∙ ap (λ b. is z x || b) i
+
+pub once-differ : (xs : List Marked) → Distinct (once xs)
+unfolding once
+once-differ [] = tt
+once-differ (x ∷ xs) = go (in-row x xs) refl (once-differ xs)
+  where
+    go : (t : Bool) → in-row x xs ≡ t → Distinct (once xs) → Distinct (once (x ∷ xs))
+    go true e d = subst Distinct (sym (cond-true (in-row x xs) (once xs) (x ∷ once xs) e)) d
+    go false e d = subst Distinct (sym (cond-false (in-row x xs) (once xs) (x ∷ once xs) e)) ((λ m. both-ways _ e (sym (in-once x xs) ∙ member-in-row x m)), d)

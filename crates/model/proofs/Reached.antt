@@ -12,14 +12,12 @@ use Rattle.std.specs.shelf.Lists.{All}
 use Rattle.std.proofs.shelf.Elements.{all-weaker}
 use Rattle.std.proofs.shelf.Tests.{false≢true}
 use Rattle.kinds.specs.Kinds.{KeyKind, ValueKind}
-use Rattle.model.specs.Maps.{Map, look, union}
-use Rattle.model.specs.Lawful.{Sound}
+use Rattle.model.specs.Maps.{Map, look, union, Sound}
 use Rattle.model.specs.Sharing.{Marked, Part, Shared, shared, no-share}
 use Rattle.model.specs.Accounts.{Version, Place, empty, draft, published, Account, nth, fresh, whole, in-row, distinct, held-nodes, held-entries, free-nodes, free-entries}
 use Rattle.model.specs.Calls.{Call, Outcome, at, now, version, named, after}
-use Rattle.model.specs.Runs.{live, Made, Reached}
-use Rattle.model.specs.ImageLaws.{Only-images-are-accepted}
-use Rattle.model.specs.RunLaws.{Lists-once}
+use Rattle.model.specs.Runs.{live, Made, Reached, Lists-once}
+use Rattle.model.specs.Reading.{Only-images-are-accepted}
 use Rattle.model.proofs.Counts.{member-in-row}
 use Rattle.model.proofs.Holding.{held, of-place, held-at}
 use Rattle.model.proofs.Room.{taken-fits, shared-fits}

@@ -11,10 +11,9 @@ use Rattle.kinds.specs.Kinds.{KeyKind, ValueKind}
 use Rattle.model.specs.Sharing.{Marked}
 use Rattle.model.specs.Accounts.{Version, Place, Account, in-row, distinct, held-nodes, held-entries}
 use Rattle.model.specs.Calls.{Answer, spare, outcome, Free}
+use Rattle.model.specs.Runs.{live, Lists-once, Holds-node, Holds-entry}
 use Rattle.std.specs.declared.option.Option.the-variants.{Some}
-use Rattle.model.specs.Runs.{live}
-use Rattle.model.specs.RunLaws.{Lists-once, Holds-node, Holds-entry}
-use Rattle.model.proofs.Counts.{in-append, distinct-within, counted-once}
+use Rattle.model.proofs.Counts.{in-append, in-row-member, member-in-row, distinct-within, counted-once, once, in-once, once-differ}
 use Rattle.model.proofs.Holding.{held, of-place, held-set, live-held, held-live}
 
 module _ (f : Version → List Marked) (ps : List Place) (i : ℕ) (p : Place) (cells : ℕ) (fits : distinct (held f ps) ≤ cells) where
@@ -43,6 +42,17 @@ listed : (f : Version → List Marked) (a : Account) (row : List Marked) → Lis
     length row ≡ distinct (held f (a .places))
 listed f a row l =
     counted-once row (held f (a .places)) (l .once) (λ x m. let h = l .each x m in live-held f a x (h .0) (h .1 .0) (h .1 .1 .0) (h .1 .1 .1)) (λ x m. l .all x (held-live f a x m))
+
+-- and there is such a row
+pub can-list : (f : Version → List Marked) (a : Account) → (row : List Marked) × Lists-once (λ x. (i : ℕ) × ((v : Version) × ((live a i ≡ Some v) × List·Memᴰ x (f v)))) row
+can-list f a = (
+  once (held f (a .places)),
+  record {
+    once = once-differ (held f (a .places));
+    each = λ x m. held-live f a x (in-row-member x (held f (a .places)) (sym (in-once x (held f (a .places))) ∙ member-in-row x m));
+    all = λ x h. in-row-member x (once (held f (a .places))) (in-once x (held f (a .places)) ∙ member-in-row x (live-held f a x (h .0) (h .1 .0) (h .1 .1 .0) (h .1 .1 .1)));
+  },
+)
 
 module _ (K : KeyKind) (V : ValueKind) (a : Account) (nodes entries : List Marked) (ln : Lists-once (Holds-node a) nodes) (le : Lists-once (Holds-entry a) entries)
     (nodes-fit : distinct (held-nodes (a .places)) ≤ a .node-cells) (entries-fit : distinct (held-entries (a .places)) ≤ a .entry-cells) where

@@ -12,11 +12,10 @@ use Rattle.std.proofs.shelf.Tests.{both-ways}
 use Rattle.bytes.specs.Rows.{same}
 use Rattle.bytes.proofs.Orders.{same-decides}
 use Rattle.kinds.specs.Kinds.{KeyKind}
-use Rattle.model.specs.Maps.{Setting, Map, keys, look}
-use Rattle.model.specs.Lawful.{Rises}
+use Rattle.model.specs.Maps.{Setting, Map, keys, look, Rises}
 use Rattle.model.specs.Sharing.{Marked}
 use Rattle.model.specs.Accounts.{distinct}
-use Rattle.model.specs.RunLaws.{Distinct, Lists-once}
+use Rattle.model.specs.Runs.{Distinct, Lists-once}
 
 -- ---- a row without a member
 

@@ -2,12 +2,8 @@ pub mod Maps
 pub mod Tries
 pub mod Images
 pub mod Reading
-pub mod Lawful
 pub mod Sharing
 pub mod Accounts
 pub mod Calls
 pub mod Runs
-pub mod MapLaws
-pub mod ImageLaws
-pub mod RunLaws
 pub mod Cases

@@ -3,6 +3,7 @@ use mathlib.Core.Path.{_≡_}
 use mathlib.Core.List.{List, [], _∷_, _++_, map}
 use mathlib.Core.Bool.{Bool, true, false, cond, _&&_}
 use Prim.Native.Nat.{ℕ}
+use Rattle.std.specs.shelf.Lists.{All}
 use Rattle.std.specs.declared.option.Option.{Option}
 use Rattle.std.specs.declared.option.Option.the-variants.{Some, None}
 use Rattle.bytes.specs.Rows.{same}
@@ -27,6 +28,7 @@ abbrev pub look : Map → List ℕ → Option (List ℕ)
 look [] k = None
 look (s ∷ m) k = cond (same (s .key) k) (Some (s .value)) (look m k)
 
+-- whether two look-ups found the same
 abbrev pub same-found : Option (List ℕ) → Option (List ℕ) → Bool
 same-found None None = true
 same-found None (Some b) = false
@@ -72,6 +74,7 @@ joined V None (Some b) = Some b
 joined V (Some a) None = Some a
 joined V (Some a) (Some b) = Some (V .join a b)
 
+-- the settings of both, joined where both have a key
 abbrev pub union : KeyKind → ValueKind → Map → Map → Map
 union K V a b = tabulate K (keys a ++ keys b) (λ x. joined V (look a x) (look b x))
 
@@ -80,5 +83,65 @@ abbrev pub decided : ValueKind → Option (List ℕ) → Option (List ℕ) → O
 decided V ours base theirs =
     cond (same-found ours theirs) theirs (cond (same-found ours base) theirs (cond (same-found theirs base) ours (joined V ours theirs)))
 
+-- what each key of ours or theirs becomes
 abbrev pub merge : KeyKind → ValueKind → Map → Map → Map → Map
 merge K V ours base theirs = tabulate K (keys ours ++ keys theirs) (λ x. decided V (look ours x) (look base x) (look theirs x))
+
+-- ---- sound maps
+
+-- each key comes before all that follow it
+abbrev pub Rises : KeyKind → Map → Type 0
+Rises K [] = Unit {0}
+Rises K (s ∷ m) = All (λ t. K .before (s .key) (t .key) ≡ true) m × Rises K m
+
+-- key and value are bytes of their kinds
+abbrev pub Readable : KeyKind → ValueKind → Setting → Type 0
+Readable K V s = (K .readable (s .key) ≡ true) × (V .readable (s .value) ≡ true)
+
+-- in rising key order, of readable settings
+pub record Sound (K : KeyKind) (V : ValueKind) (m : Map) : Type 0 where
+  pub rises : Rises K m
+  pub reads : All (Readable K V) m
+
+-- ---- laws
+
+-- maps with equal look-ups are equal
+abbrev pub Look-ups-say-all : KeyKind → ValueKind → Type 0
+Look-ups-say-all K V = (a b : Map) → Sound K V a → Sound K V b → ((k : List ℕ) → look a k ≡ look b k) → a ≡ b
+
+-- what a look-up finds after each edit, at every key
+abbrev pub Put-sets-one-key : KeyKind → ValueKind → Type 0
+Put-sets-one-key K V =
+    (m : Map) (k v : List ℕ) → Sound K V m → K .readable k ≡ true → V .readable v ≡ true →
+    Sound K V (put K m k v) × ((x : List ℕ) → look (put K m k v) x ≡ cond (same x k) (Some v) (look m x))
+
+abbrev pub Remove-clears-one-key : KeyKind → ValueKind → Type 0
+Remove-clears-one-key K V =
+    (m : Map) (k : List ℕ) → Sound K V m → K .readable k ≡ true →
+    Sound K V (remove K m k) × ((x : List ℕ) → look (remove K m k) x ≡ cond (same x k) None (look m x))
+
+abbrev pub Union-joins-each-key : KeyKind → ValueKind → Type 0
+Union-joins-each-key K V =
+    (a b : Map) → Sound K V a → Sound K V b →
+    Sound K V (union K V a b) × ((x : List ℕ) → look (union K V a b) x ≡ joined V (look a x) (look b x))
+
+abbrev pub Merge-decides-each-key : KeyKind → ValueKind → Type 0
+Merge-decides-each-key K V =
+    (ours base theirs : Map) → Sound K V ours → Sound K V theirs →
+    Sound K V (merge K V ours base theirs) × ((x : List ℕ) → look (merge K V ours base theirs) x ≡ decided V (look ours x) (look base x) (look theirs x))
+
+-- union and merge
+abbrev pub Union-is-associative : KeyKind → ValueKind → Type 0
+Union-is-associative K V = (a b c : Map) → Sound K V a → Sound K V b → Sound K V c → union K V (union K V a b) c ≡ union K V a (union K V b c)
+
+abbrev pub Union-is-commutative : KeyKind → ValueKind → Type 0
+Union-is-commutative K V = (a b : Map) → Sound K V a → Sound K V b → union K V a b ≡ union K V b a
+
+abbrev pub Union-is-idempotent : KeyKind → ValueKind → Type 0
+Union-is-idempotent K V = (a : Map) → Sound K V a → union K V a a ≡ a
+
+abbrev pub Union-is-merge-over-nothing : KeyKind → ValueKind → Type 0
+Union-is-merge-over-nothing K V = (a b : Map) → Sound K V a → Sound K V b → union K V a b ≡ merge K V a [] b
+
+abbrev pub Merge-favours-no-side : KeyKind → ValueKind → Type 0
+Merge-favours-no-side K V = (ours base theirs : Map) → Sound K V ours → Sound K V theirs → merge K V ours base theirs ≡ merge K V theirs base ours

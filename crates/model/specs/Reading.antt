@@ -1,15 +1,18 @@
 -- How an image is judged: the map that it is of, or the first faulty command. Assumes nothing.
+use mathlib.Core.Path.{_≡_}
 use mathlib.Core.List.{List, [], _∷_, _++_}
 use mathlib.Core.Bool.{Bool, true, false, cond, _&&_, _||_}
 use Prim.Native.Nat.{ℕ, _+_, _/_, _%_, _^_, suc, zero}
 use lib.ListN.{length, take, drop}
 use lib.Dec.{eqb, ltb, leb}
 use lib.Bits.{bitAnd}
-use Rattle.bytes.specs.Rows.{number, same}
+use Rattle.bytes.specs.Rows.{byte-row, number, same}
 use Rattle.kinds.specs.Kinds.{KeyKind, ValueKind}
 use Rattle.model.specs.Maps.{Setting, Map, insert}
-use Rattle.model.specs.Tries.{filter, sixteen, leads}
+use Rattle.model.specs.Tries.{filter, sixteen, leads, Lawful}
+use Rattle.model.specs.Images.{image}
 
+-- what reading some commands gives
 pub data Read : Type 0 where
   got : List Setting → ℕ → List ℕ → Read  -- the settings, the offset, what is left
   fault : ℕ → ℕ → Read  -- the number of refusal, the offset
@@ -18,10 +21,12 @@ pub data Read : Type 0 where
 abbrev pub digits-in : ℕ → List ℕ
 digits-in bits = filter (λ g. eqb ((bits / 2 ^ g) % 2) 1) sixteen
 
+-- settings that were read before
 abbrev pub prepend : List Setting → Read → Read
 prepend xs (got ys at bs) = got (xs ++ ys) at bs
 prepend xs (fault n at) = fault n at
 
+-- a reading, and if it went well another
 abbrev pub then : Read → (ℕ → List ℕ → Read) → Read
 then (got xs at bs) f = prepend xs (f at bs)
 then (fault n at) f = fault n at
@@ -81,14 +86,17 @@ read-node K V zero p at bs = command 0x43 1 (λ w. read-crowd K V p at (number w
 read-node K V (suc h) p at bs =
     command 0x4E 4 (λ w. read-parts K V (read-node K V h) h p at (number (take 2 w)) (number (drop 2 w))) at bs
 
+-- the map that an image is of, or the number of refusal and the offset
 pub data Verdict : Type 0 where
   accepted : Map → Verdict
   refused : ℕ → ℕ → Verdict
 
+-- settings in any order as a map
 abbrev pub gather : KeyKind → List Setting → Map
 gather K [] = []
 gather K (s ∷ ss) = insert K s (gather K ss)
 
+-- the root node, if there is one
 abbrev pub read-root : KeyKind → ValueKind → ℕ → List ℕ → Read
 read-root K V at [] = got [] at []
 read-root K V at (b ∷ bs) = cond (eqb b 0x4E) (read-node K V 8 [] at (b ∷ bs)) (got [] at (b ∷ bs))
@@ -97,6 +105,7 @@ read-root K V at (b ∷ bs) = cond (eqb b 0x4E) (read-node K V 8 [] at (b ∷ bs
 abbrev pub end-in : ℕ → ℕ → List ℕ → ℕ → List ℕ → Read
 end-in n at w to rest = cond (eqb (number w) n) (cond (eqb (length rest) 0) (got [] to rest) (fault 9 to)) (fault 9 at)
 
+-- the end, after so many entries
 abbrev pub read-end : ℕ → ℕ → List ℕ → Read
 read-end n at bs = command 0x5A 4 (end-in n at) at bs
 
@@ -109,6 +118,7 @@ ended (fault n at) = fault n at
 abbrev pub body-in : KeyKind → ValueKind → List ℕ → ℕ → List ℕ → Read
 body-in K V w to rest = cond (same w (4 ∷ (K .code ∷ (V .code ∷ [])))) (ended (read-root K V to rest)) (fault 7 0)
 
+-- a whole image
 abbrev pub read-whole : KeyKind → ValueKind → List ℕ → Read
 read-whole K V bs = command 0x56 3 (body-in K V) 0 bs
 
@@ -118,3 +128,16 @@ verdict K (fault n at) = refused n at
 
 abbrev pub judge : KeyKind → ValueKind → List ℕ → Verdict
 judge K V bs = verdict K (read-whole K V bs)
+
+-- ---- laws of images
+
+-- an image is a row of bytes, and reading it gives its map
+abbrev pub Images-read-back : KeyKind → ValueKind → Type 0
+Images-read-back K V = (m : Map) → Lawful K V m → (byte-row (image K V m) ≡ true) × (judge K V (image K V m) ≡ accepted m)
+
+-- bytes that are accepted as a map are the image of that map, and the map is lawful: so exactly the images are accepted
+abbrev pub Only-images-are-accepted : KeyKind → ValueKind → Type 0
+Only-images-are-accepted K V = (bs : List ℕ) (m : Map) → byte-row bs ≡ true → judge K V bs ≡ accepted m → (bs ≡ image K V m) × Lawful K V m
+
+abbrev pub Equal-images-are-of-equal-maps : KeyKind → ValueKind → Type 0
+Equal-images-are-of-equal-maps K V = (m n : Map) → Lawful K V m → Lawful K V n → image K V m ≡ image K V n → m ≡ n

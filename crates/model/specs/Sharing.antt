@@ -23,6 +23,7 @@ pub record Part : Type 0 where
   pub nodes : List Marked
   pub entries : List Marked
 
+-- whether the prefix q begins with p
 abbrev pub begins : List ℕ → List ℕ → Bool
 begins [] q = true
 begins (g ∷ p) [] = false
@@ -46,14 +47,17 @@ pub record Shared : Type 0 where
 abbrev pub no-share : Shared
 no-share = record { nodes = []; entries = []; new-nodes = 0; new-entries = 0 }
 
+-- two results together
 infixr 20 _⊕_
 abbrev pub _⊕_ : Shared → Shared → Shared
 a ⊕ b = record { nodes = a .nodes ++ b .nodes; entries = a .entries ++ b .entries; new-nodes = a .new-nodes + b .new-nodes; new-entries = a .new-entries + b .new-entries }
 
+-- one result after another
 abbrev pub sum : {A : Type 0} → (A → Shared) → List A → Shared
 sum f [] = no-share
 sum f (x ∷ xs) = f x ⊕ sum f xs
 
+-- a node that the call n makes at a prefix
 abbrev pub new-node : ℕ → List ℕ → Shared
 new-node n p = record { nodes = record { what = p; mark = n } ∷ []; entries = []; new-nodes = 1; new-entries = 0 }
 
@@ -62,6 +66,7 @@ abbrev pub first-same : List Part → Map → Option Part
 first-same [] m = None
 first-same (a ∷ rest) m = cond (same-map (a .settings) m) (Some a) (first-same rest m)
 
+-- the mark that a key has in a row
 abbrev pub mark-of : List Marked → List ℕ → ℕ
 mark-of [] k = 0
 mark-of (x ∷ xs) k = cond (same (x .what) k) (x .mark) (mark-of xs k)

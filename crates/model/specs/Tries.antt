@@ -1,11 +1,12 @@
 -- The trie of a map: which prefixes have a node, by the sizes of the map's parts. Assumes nothing.
 use mathlib.Core.List.{List, [], _∷_, _++_, map}
 use mathlib.Core.Bool.{Bool, true, false, cond, _&&_, _||_}
-use Prim.Native.Nat.{ℕ, _+_, _/_, _%_, _^_}
+use Prim.Native.Nat.{ℕ, _+_, _/_, _%_, _^_, _≤_, _<_}
 use lib.Dec.{eqb, ltb, leb}
 use lib.ListN.{length}
-use Rattle.kinds.specs.Kinds.{KeyKind}
-use Rattle.model.specs.Maps.{Setting, Map}
+use Rattle.std.specs.shelf.Lists.{All}
+use Rattle.kinds.specs.Kinds.{KeyKind, ValueKind}
+use Rattle.model.specs.Maps.{Setting, Map, Rises, Readable}
 
 abbrev pub filter : {A : Type 0} → (A → Bool) → List A → List A
 filter p [] = []
@@ -72,3 +73,16 @@ crowded-at K m (s ∷ rest) = ltb 16 (length (of-hash K m (K .hash (s .key)))) |
 -- more than 16 keys have one hash
 abbrev pub crowded : KeyKind → Map → Bool
 crowded K m = crowded-at K m m
+
+-- ---- lawful maps
+
+-- at most 16 settings of one hash
+abbrev pub Uncrowded : KeyKind → Map → Type 0
+Uncrowded K m = (x : ℕ) → length (of-hash K m x) ≤ 16
+
+pub record Lawful (K : KeyKind) (V : ValueKind) (m : Map) : Type 0 where
+  pub rises : Rises K m
+  pub reads : All (Readable K V) m
+  pub uncrowded : Uncrowded K m
+  -- the number of settings fits the four bytes of the end
+  pub counted : length m < 2 ^ 32

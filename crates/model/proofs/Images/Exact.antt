@@ -13,10 +13,10 @@ use Rattle.bytes.specs.Rows.{same, byte-row, in-bytes, number}
 use Rattle.kinds.specs.Kinds.{KeyKind, ValueKind}
 use Rattle.bytes.proofs.Numbers.{number-fits, read-bytes}
 use Rattle.bytes.proofs.Orders.{same-decides}
-use Rattle.model.specs.Maps.{Setting, Map}
+use Rattle.model.specs.Maps.{Setting, Map, Readable}
 use Rattle.model.specs.Images.{node, root, image}
 use Rattle.model.specs.Reading.{Read, got, fault, read-node, accepted, gather, read-root, end-in, read-end, ended, body-in, read-whole, verdict, judge}
-use Rattle.model.specs.Lawful.{Readable, Lawful}
+use Rattle.model.specs.Tries.{Lawful}
 use Rattle.model.proofs.Images.Lists.{all-to}
 use Rattle.model.proofs.Images.Rising.{KeyReads, gather-all, gather-rises}
 use Rattle.model.proofs.Images.Readings.{no-fault, passed, prepend-split, command-ran, byte-row-parts}

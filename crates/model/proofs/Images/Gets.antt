@@ -12,11 +12,10 @@ use Rattle.std.specs.shelf.Lists.{All}
 use Rattle.std.proofs.shelf.Tests.{eqb-true, eq-eqb, and-parts, le-ltb, and-from}
 use Rattle.std.proofs.shelf.Lists.{length-append, append-assoc, take-at, drop-at}
 use Rattle.kinds.specs.Kinds.{KeyKind, ValueKind}
-use Rattle.model.specs.Maps.{Setting, Map}
-use Rattle.model.specs.Tries.{filter, digit, leads, at-digit}
+use Rattle.model.specs.Maps.{Setting, Map, Rises, Readable}
+use Rattle.model.specs.Tries.{filter, digit, leads, at-digit, Uncrowded}
 use Rattle.model.specs.Images.{entry}
 use Rattle.model.specs.Reading.{Read, got, prepend, then, each, command, entry-in, read-entry, with-first, rising}
-use Rattle.model.specs.Lawful.{Rises, Readable, Uncrowded}
 use Rattle.model.proofs.Images.Lists.{flat, all-both, all-to, all-filter, filter-passes, filter-all, length-filter, filter-swap}
 use Rattle.model.proofs.Images.Rising.{filter-rises}
 

@@ -14,11 +14,10 @@ use Rattle.std.proofs.shelf.Lists.{append-nil, length-append, append-assoc, len
 use Rattle.bytes.specs.Rows.{byte-row, in-bytes, number}
 use Rattle.kinds.specs.Kinds.{KeyKind, ValueKind}
 use Rattle.bytes.proofs.Numbers.{number-fits, read-bytes}
-use Rattle.model.specs.Maps.{Setting, Map}
-use Rattle.model.specs.Tries.{digit, sixteen, leads, at-digit, one, many, branching}
+use Rattle.model.specs.Maps.{Setting, Map, Readable}
+use Rattle.model.specs.Tries.{digit, sixteen, leads, at-digit, one, many, branching, Uncrowded}
 use Rattle.model.specs.Images.{entry, node}
 use Rattle.model.specs.Reading.{got, digits-in, then, each, read-entry, rising, enough, read-parts, read-crowd, read-node, gather}
-use Rattle.model.specs.Lawful.{Readable, Uncrowded}
 use Rattle.model.proofs.Images.Lists.{flat, all-both, filter-like, Mem, all-to, all-mem, all-from-mem, all-join, filter-passes, filter-append, length-filter, filter-within, mem-filter, mem-of-filter, apart-filter, flat-like, total-like, falls, total-falls}
 use Rattle.model.proofs.Images.Bits.{flag, bits-of, bits-of-flags, flags-apart, sixteen-apart, digit-in}
 use Rattle.model.proofs.Images.Rising.{KeyReads, gather-rising, filter-gather}

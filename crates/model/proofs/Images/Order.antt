@@ -11,11 +11,10 @@ use Rattle.std.proofs.shelf.Tests.{eqb-true, ne-eqb, lt-ltb}
 use Rattle.std.proofs.shelf.Lists.{append-nil, length-append}
 use Rattle.bytes.specs.Rows.{in-bytes}
 use Rattle.kinds.specs.Kinds.{KeyKind}
-use Rattle.model.specs.Maps.{Setting, Map}
+use Rattle.model.specs.Maps.{Setting, Map, Rises}
 use Rattle.model.specs.Tries.{filter, digit, sixteen, at-digit, one, many, branching}
 use Rattle.model.specs.Images.{entry, node}
 use Rattle.model.specs.Reading.{gather}
-use Rattle.model.specs.Lawful.{Rises}
 use Rattle.model.proofs.Images.Lists.{flat, Mem, all-to, all-from-mem, all-join, all-filter, filter-passes, filter-append, all-flat, total-like, length-flat, total-filter, total-add, falls, falls-flat-filter, total-falls}
 use Rattle.model.proofs.Images.Bits.{bits-of, bits-is, picked-is, sixteen-apart, digit-in}
 use Rattle.model.proofs.Images.Rising.{KeyReads, gather-rises, gather-rising, filter-gather, filter-rises, same-parts}

@@ -11,11 +11,10 @@ use Rattle.std.proofs.shelf.Tests.{eqb-true, and-parts, and-from, ltb-false}
 use Rattle.std.proofs.shelf.Lists.{append-assoc, length-take-le, take-append-drop}
 use Rattle.bytes.specs.Rows.{byte-row}
 use Rattle.kinds.specs.Kinds.{KeyKind, ValueKind}
-use Rattle.model.specs.Maps.{Setting}
+use Rattle.model.specs.Maps.{Setting, Rises, Readable}
 use Rattle.model.specs.Tries.{leads}
 use Rattle.model.specs.Images.{entry}
 use Rattle.model.specs.Reading.{Read, got, fault, prepend, then, command, entry-in, read-entry, with-first, rising}
-use Rattle.model.specs.Lawful.{Rises, Readable}
 use Rattle.model.proofs.Images.Lists.{flat, all-to}
 use Rattle.model.proofs.Images.Rising.{After}
 

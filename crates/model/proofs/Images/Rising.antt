@@ -9,10 +9,9 @@ use lib.Dec.{eqb}
 use Rattle.std.specs.shelf.Lists.{All}
 use Rattle.std.proofs.shelf.Tests.{eq-eqb, both-ways, cond-both}
 use Rattle.kinds.specs.Kinds.{KeyKind}
-use Rattle.model.specs.Maps.{Setting, Map, insert}
+use Rattle.model.specs.Maps.{Setting, Map, insert, Rises}
 use Rattle.model.specs.Tries.{filter}
 use Rattle.model.specs.Reading.{gather}
-use Rattle.model.specs.Lawful.{Rises}
 use Rattle.model.proofs.Images.Lists.{Mem, all-to, all-mem, all-filter, mem-filter, mem-of-filter, falls}
 
 module _ (K : KeyKind) where

@@ -14,11 +14,10 @@ use Rattle.bytes.specs.Rows.{in-bytes, number}
 use Rattle.kinds.specs.Kinds.{KeyKind, ValueKind}
 use Rattle.bytes.proofs.Numbers.{in-bytes-number}
 use Rattle.bytes.proofs.Orders.{same-decides}
-use Rattle.model.specs.Maps.{Map}
-use Rattle.model.specs.Tries.{sixteen, leads, at-digit, one, many, branching}
+use Rattle.model.specs.Maps.{Map, Readable}
+use Rattle.model.specs.Tries.{sixteen, leads, at-digit, one, many, branching, Lawful}
 use Rattle.model.specs.Images.{entry, node, root, image}
 use Rattle.model.specs.Reading.{Read, got, fault, digits-in, prepend, then, each, read-entry, rising, enough, read-parts, read-crowd, read-node, accepted, gather, read-root, end-in, read-end, ended, body-in, read-whole, verdict, judge}
-use Rattle.model.specs.Lawful.{Readable, Lawful}
 use Rattle.model.proofs.Images.Lists.{flat, all-to, all-from-mem, filter-passes, total, total-like, length-flat}
 use Rattle.model.proofs.Images.Bits.{bits-of, digits-of-bits, bits-fit, apart-flags}
 use Rattle.model.proofs.Images.Rising.{KeyReads}

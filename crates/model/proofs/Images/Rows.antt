@@ -12,10 +12,9 @@ use Rattle.std.proofs.shelf.Lists.{length-append}
 use Rattle.bytes.specs.Rows.{byte-row, in-bytes}
 use Rattle.kinds.specs.Kinds.{KeyKind, ValueKind}
 use Rattle.bytes.proofs.Numbers.{in-bytes-row}
-use Rattle.model.specs.Maps.{Map}
-use Rattle.model.specs.Tries.{sixteen, at-digit, one, many, branching}
+use Rattle.model.specs.Maps.{Map, Readable}
+use Rattle.model.specs.Tries.{sixteen, at-digit, one, many, branching, Lawful}
 use Rattle.model.specs.Images.{entry, node, root, image}
-use Rattle.model.specs.Lawful.{Readable, Lawful}
 use Rattle.model.proofs.Images.Lists.{flat, all-to, all-from-mem}
 use Rattle.model.proofs.Images.Bits.{bits-of}
 use Rattle.model.proofs.Images.Order.{singles, node-is}

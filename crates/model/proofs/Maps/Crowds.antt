@@ -13,9 +13,8 @@ use Rattle.std.specs.declared.option.Option.the-variants.{None}
 use Rattle.bytes.specs.Rows.{same}
 use Rattle.bytes.proofs.Orders.{same-tells}
 use Rattle.kinds.specs.Kinds.{KeyKind, ValueKind}
-use Rattle.model.specs.Maps.{Setting, Map, look, remove}
-use Rattle.model.specs.Tries.{filter, of-hash, crowded-at, crowded}
-use Rattle.model.specs.Lawful.{Rises, Readable, Sound, Uncrowded}
+use Rattle.model.specs.Maps.{Setting, Map, look, remove, Rises, Readable, Sound}
+use Rattle.model.specs.Tries.{filter, of-hash, crowded-at, crowded, Uncrowded}
 use Rattle.model.proofs.Maps.Order.{sound-equal}
 use Rattle.model.proofs.Maps.Edits.{sound-remove, look-remove}
 

@@ -11,8 +11,7 @@ use Rattle.std.specs.declared.option.Option.the-variants.{Some, None}
 use Rattle.bytes.specs.Rows.{same}
 use Rattle.bytes.proofs.Orders.{same-tells}
 use Rattle.kinds.specs.Kinds.{KeyKind, ValueKind}
-use Rattle.model.specs.Maps.{Map, keys, look, put, remove, joined, union, same-found, decided, merge}
-use Rattle.model.specs.Lawful.{Sound}
+use Rattle.model.specs.Maps.{Map, keys, look, put, remove, joined, union, same-found, decided, merge, Sound}
 use Rattle.model.proofs.Maps.Order.{Reads, look-reads}
 use Rattle.model.proofs.Maps.Tables.{Key-rows, has, has-append, look-unlisted, keys-readable, look-table, sound-tabulate}
 

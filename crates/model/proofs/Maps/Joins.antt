@@ -7,8 +7,7 @@ use Rattle.std.specs.declared.option.Option.{Option}
 use Rattle.std.specs.declared.option.Option.the-variants.{Some, None}
 use Rattle.bytes.proofs.Orders.{same-tells}
 use Rattle.kinds.specs.Kinds.{KeyKind, ValueKind}
-use Rattle.model.specs.Maps.{Map, look, joined, union, decided, merge}
-use Rattle.model.specs.Lawful.{Sound}
+use Rattle.model.specs.Maps.{Map, look, joined, union, decided, merge, Sound}
 use Rattle.model.proofs.Maps.Found.{found-tells}
 use Rattle.model.proofs.Maps.Order.{Reads, sound-equal}
 use Rattle.model.proofs.Maps.Edits.{reads-look, sound-union, look-union, sound-merge, look-merge}

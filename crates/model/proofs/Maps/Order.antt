@@ -13,8 +13,7 @@ use Rattle.std.specs.declared.option.Option.the-variants.{Some, None}
 use Rattle.bytes.specs.Rows.{same}
 use Rattle.bytes.proofs.Orders.{same-tells}
 use Rattle.kinds.specs.Kinds.{KeyKind, ValueKind}
-use Rattle.model.specs.Maps.{Setting, Map, look, insert}
-use Rattle.model.specs.Lawful.{Rises, Readable, Sound}
+use Rattle.model.specs.Maps.{Setting, Map, look, insert, Rises, Readable, Sound}
 use Rattle.model.proofs.Maps.Found.{same-self}
 
 -- a key before every key of a map

@@ -10,8 +10,7 @@ use Rattle.std.specs.declared.option.Option.the-variants.{Some, None}
 use Rattle.bytes.specs.Rows.{same}
 use Rattle.bytes.proofs.Orders.{same-tells}
 use Rattle.kinds.specs.Kinds.{KeyKind, ValueKind}
-use Rattle.model.specs.Maps.{Map, keys, look, insert-found, tabulate}
-use Rattle.model.specs.Lawful.{Rises, Readable, Sound}
+use Rattle.model.specs.Maps.{Map, keys, look, insert-found, tabulate, Rises, Readable, Sound}
 use Rattle.model.proofs.Maps.Order.{Reads, readable-insert, rising-insert, look-insert}
 
 -- a row of readable keys

@@ -12,10 +12,9 @@ use Rattle.std.proofs.shelf.Tests.{cond-both, both-ways, false≢true, and-part
 use Rattle.bytes.specs.Rows.{same}
 use Rattle.bytes.proofs.Orders.{same-decides}
 use Rattle.kinds.specs.Kinds.{KeyKind}
-use Rattle.model.specs.Maps.{Setting, Map, keys, look, same-map}
+use Rattle.model.specs.Maps.{Setting, Map, keys, look, same-map, Rises}
 use Rattle.model.specs.Tries.{filter, digit, at-digit}
-use Rattle.model.specs.Lawful.{Rises}
-use Rattle.model.specs.RunLaws.{Distinct}
+use Rattle.model.specs.Runs.{Distinct}
 use Rattle.model.proofs.Marks.Members.{Mem, all-mem, all-filter, mem-filter, mem-of-filter, mem-of-map, map-filter}
 
 -- ---- look-ups

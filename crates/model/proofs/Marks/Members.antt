@@ -9,7 +9,7 @@ use lib.ListN.{length}
 use Rattle.std.specs.shelf.Lists.{All}
 use Rattle.std.proofs.shelf.Tests.{cond-both, both-ways}
 use Rattle.model.specs.Tries.{filter}
-use Rattle.model.specs.RunLaws.{Distinct, Lists-once}
+use Rattle.model.specs.Runs.{Distinct, Lists-once}
 
 -- a thing stands in a row
 abbrev pub Mem : {A : Type 0} → A → List A → Type 0

@@ -13,7 +13,7 @@ use Rattle.kinds.specs.Kinds.{KeyKind}
 use Rattle.model.specs.Maps.{Map}
 use Rattle.model.specs.Tries.{digit, sixteen, leads, part, at-digit, many, branching, has-node}
 use Rattle.model.specs.Sharing.{begins}
-use Rattle.model.specs.RunLaws.{Distinct}
+use Rattle.model.specs.Runs.{Distinct}
 use Rattle.model.proofs.Marks.Members.{Mem, all-from-mem, all-mem, filter-all, filter-within, filter-short, mem-filter, mem-of-filter}
 
 -- ---- digits

@@ -13,12 +13,11 @@ use Rattle.std.specs.Options.{isSome}
 use Rattle.std.specs.shelf.Lists.{All}
 use Rattle.std.proofs.shelf.Tests.{cond-both, false≢true, and-parts, eqb-true, eq-eqb, ltb-true, lt-ltb}
 use Rattle.kinds.specs.Kinds.{KeyKind, ValueKind}
-use Rattle.model.specs.Maps.{Setting, Map, keys, look, same-found, same-map}
+use Rattle.model.specs.Maps.{Setting, Map, keys, look, same-found, same-map, Rises, Readable, Sound}
 use Rattle.model.specs.Tries.{filter, digit, sixteen, leads, at-digit, parts, one, many, branching, has-node}
 use Rattle.model.specs.Images.{picked}
-use Rattle.model.specs.Lawful.{Rises, Readable, Sound}
 use Rattle.model.specs.Sharing.{Marked, Part, begins, below, Shared, _⊕_, sum, new-node, first-same, entry-from, kept-or, share, shared}
-use Rattle.model.specs.RunLaws.{Lists-once}
+use Rattle.model.specs.Runs.{Lists-once}
 use Rattle.model.proofs.Marks.Members.{Mem, all-map, all-to, all-from-mem, mem-filter, mem-of-filter, map-join, map-filter, flat, mem-flat, mem-of-flat, distinct-filter, distinct-join, distinct-flat, lists-like, lists-filter}
 use Rattle.model.proofs.Marks.Keys.{found-mem, mem-found, same-map-true, key-at, key-of-at, filter-rises, keys-once}
 use Rattle.model.proofs.Marks.Prefixes.{sixteen-once, sixteen-mem, digit-below, length-on, begins-same, begins-short, begins-less, begins-apart, begins-next, begins-length, led-on, node-on, node-short, node-there, node-branch}

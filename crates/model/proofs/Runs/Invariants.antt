@@ -9,11 +9,12 @@ use Rattle.std.proofs.shelf.Elements.{all-set, all-weaker}
 use Rattle.std.specs.declared.option.Option.{Option}
 use Rattle.std.specs.declared.option.Option.the-variants.{Some, None}
 use Rattle.kinds.specs.Kinds.{KeyKind, ValueKind}
-use Rattle.model.specs.Lawful.{Sound, Uncrowded}
+use Rattle.model.specs.Maps.{Sound}
+use Rattle.model.specs.Tries.{Uncrowded}
 use Rattle.model.specs.Accounts.{Version, Place, empty, draft, published, Account, nth, fresh}
 use Rattle.model.specs.Calls.{Call, after, run}
 use Rattle.model.specs.Runs.{live, Made, Reached}
-use Rattle.model.specs.ImageLaws.{Only-images-are-accepted}
+use Rattle.model.specs.Reading.{Only-images-are-accepted}
 use Rattle.model.proofs.Maps.Order.{sound-empty}
 use Rattle.model.proofs.Maps.Crowds.{uncrowded-empty}
 use Rattle.model.proofs.Runs.Steps.{Holds, holds-nth, New, cleared, opened, copied, edited, united, issued, loaded, step}

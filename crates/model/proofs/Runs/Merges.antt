@@ -11,9 +11,8 @@ use Rattle.model.specs.Images.{image}
 use Rattle.model.specs.Sharing.{Shared}
 use Rattle.model.specs.Accounts.{Version, Place, draft, published, Account, nth}
 use Rattle.model.specs.Calls.{Merge, took, Outcome, at, refuse, leave, version, outcome, after}
-use Rattle.model.specs.Runs.{live}
-use Rattle.model.specs.ImageLaws.{Only-images-are-accepted}
-use Rattle.model.specs.RunLaws.{Merge-is-symmetric}
+use Rattle.model.specs.Runs.{live, Merge-is-symmetric}
+use Rattle.model.specs.Reading.{Only-images-are-accepted}
 use Rattle.model.proofs.Maps.Joins.{merge-swap}
 use Rattle.model.proofs.Runs.Steps.{past-place, past-published, past-draft, past-uncrowded, past-result}
 use Rattle.model.proofs.Runs.Invariants.{live-sound}

@@ -11,14 +11,13 @@ use Rattle.std.proofs.shelf.Tests.{eq-eqb, ne-eqb}
 use Rattle.std.specs.declared.option.Option.{Option}
 use Rattle.std.specs.declared.option.Option.the-variants.{Some, None}
 use Rattle.kinds.specs.Kinds.{KeyKind, ValueKind}
-use Rattle.model.specs.Maps.{Map, look, joined, union}
+use Rattle.model.specs.Maps.{Map, look, joined, union, Sound}
 use Rattle.model.specs.Images.{image}
-use Rattle.model.specs.Lawful.{Sound, Uncrowded}
+use Rattle.model.specs.Tries.{Uncrowded}
 use Rattle.model.specs.Accounts.{Version, Place, empty, Account}
 use Rattle.model.specs.Calls.{Call, Outcome, now, both-names, after}
-use Rattle.model.specs.Runs.{Made, Reached}
-use Rattle.model.specs.ImageLaws.{Only-images-are-accepted}
-use Rattle.model.specs.RunLaws.{Same-names, Same-names-mean-one-image}
+use Rattle.model.specs.Runs.{Made, Reached, Same-names, Same-names-mean-one-image}
+use Rattle.model.specs.Reading.{Only-images-are-accepted}
 use Rattle.model.proofs.Maps.Order.{Reads, sound-empty, sound-equal}
 use Rattle.model.proofs.Maps.Edits.{look-union, reads-look, reads-joined}
 use Rattle.model.proofs.Maps.Joins.{joined-assoc, joined-comm, joined-self}

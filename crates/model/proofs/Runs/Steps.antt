@@ -11,18 +11,16 @@ use Rattle.std.proofs.shelf.Tests.{and-parts, leb-true}
 use Rattle.std.specs.declared.option.Option.the-variants.{Some, None}
 use Rattle.kinds.specs.Kinds.{KeyKind, ValueKind}
 use Rattle.kinds.specs.Refusals as refusals
-use Rattle.model.specs.Maps.{Map, put, remove, union, merge}
-use Rattle.model.specs.Tries.{crowded}
+use Rattle.model.specs.Maps.{Map, put, remove, union, merge, Sound}
+use Rattle.model.specs.Tries.{crowded, Uncrowded}
 use Rattle.model.specs.Images.{image}
-use Rattle.model.specs.Reading.{judge, accepted, Verdict}
-use Rattle.model.specs.Reading as reading
-use Rattle.model.specs.Lawful.{Sound, Uncrowded}
+use Rattle.model.specs.Reading.{judge, accepted, Verdict, Only-images-are-accepted}
 use Rattle.model.specs.Sharing.{Shared, shared, no-share}
 use Rattle.model.specs.Accounts.{Version, Place, empty, draft, published, Account, nth, whole, free-nodes, free-entries}
-use Rattle.model.specs.Calls as Calls
 use Rattle.model.specs.Calls.{Call, Answer, done, took, saved, refused, Outcome, at, now, refuse, reply, leave, on-place, on-live, on-published, on-empty, on-draft, on-uncrowded, result, version, both-names, named, outcome}
 use Rattle.model.specs.Runs.{Made}
-use Rattle.model.specs.ImageLaws.{Only-images-are-accepted}
+use Rattle.model.specs.Reading as reading
+use Rattle.model.specs.Calls as Calls
 use Rattle.model.proofs.Maps.Edits.{sound-put, sound-remove, sound-union, sound-merge}
 use Rattle.model.proofs.Maps.Crowds.{uncrowded, uncrowded-remove}
 
