@@ -1,0 +1,15 @@
+pub mod Occurrences
+pub mod Chains
+pub mod Rows
+pub mod NodeCounts
+pub mod EntryCounts
+pub mod Making
+pub mod Releasing
+pub mod Ranks
+pub mod Walking
+pub mod Clearing
+pub mod Frames
+pub mod Makes
+pub mod Tallies
+pub mod Reach
+pub mod Views
