@@ -18,7 +18,7 @@ use Rattle.std.proofs.shelf.Lists.{getD-map, take-map, take-append-drop, length
 use Rattle.std.proofs.shelf.Counted.{getD-counting, length-map-counting, getD-map-counting}
 use Rattle.std.proofs.shelf.Bits.{mod-low, and-mask}
 use Rattle.std.proofs.shelf.Lanes.{maskL-lt, bit-maskL, ones-maskL}
-use Rattle.std.proofs.shelf.Tests.{cond-true, lt-ltb, eqb-true, false≢true}
+use Rattle.std.proofs.shelf.Tests.{cond-true, cond-false, lt-ltb, le-ltb, eqb-true, false≢true}
 use Rattle.kinds.specs.Kinds.{KeyKind}
 use Rattle.model.specs.Maps.{Setting, Map}
 use Rattle.model.specs.Tries.{filter, sixteen, at-digit, parts, one, many}
@@ -175,3 +175,25 @@ module _ (K : KeyKind) (note : ℕ → Note) (entry-note : ℕ → Entry-note) (
       let found : getD (given (λ x. one (below x)) below none (counting 0 16)) r none ≡ entry-note (getD (c .entries) r 0) .setting =
       sym (ap (λ l. getD l r none) own-is) ∙ getD-map (λ x. entry-note x .setting) (singles c) r 0 none within ∙ ap (λ x. entry-note x .setting) (listed-at (c .datamap) (c .entries) r inside) in
       ap below (let z : g ≡ 0 + g = omega arith in z) ∙ at .1 ∙ ap (λ n. getD (given (λ x. one (below x)) below none (counting 0 16)) n none ∷ []) (sym place) ∙ ap (λ s. s ∷ []) found
+
+-- ---- reading a node that fits, at the deepest level
+
+module _ (K : KeyKind) (note : ℕ → Note) (entry-note : ℕ → Entry-note) (c : NodeCell) (a : Note) (fits : Fits K note entry-note c a) (deep : length (a .label .what) ≡ 8) where
+  deep-test : ltb (length (a .label .what)) 8 ≡ false
+  deep-test = le-ltb (length (a .label .what)) 8 (omega arith)
+
+  pub no-children : kids c ≡ []
+  no-children = fits .children ∙ ap (map (a .child)) (cond-false _ _ _ deep-test)
+
+  all-own : map (λ e. entry-note e .setting) (singles c) ≡ a .settings
+  all-own = fits .owns ∙ cond-false _ _ _ deep-test
+
+  pub as-many : ones (c .datamap) ≡ length (a .settings)
+  as-many = sym (length-listed (c .datamap) (c .entries)) ∙ sym (length-map (singles c) (λ e. entry-note e .setting)) ∙ ap length all-own
+
+  -- the entries follow the keys
+  pub by-key : (k : ℕ) (s : Setting) → k < length (a .settings) → entry-note (getD (c .entries) k 0) .setting ≡ getD (a .settings) k s
+  by-key k s p =
+      let q : k < ones (c .datamap) = omega (arith, as-many) in
+      let r : k < length (singles c) = omega (arith, length-listed (c .datamap) (c .entries)) in
+      ap (λ e. entry-note e .setting) (sym (listed-at (c .datamap) (c .entries) k q)) ∙ sym (getD-map (λ e. entry-note e .setting) (singles c) k 0 s r) ∙ ap (λ l. getD l k s) all-own

@@ -3,9 +3,11 @@ use mathlib.Core.Path.{_≡_}
 use mathlib.Core.List.{List, [], _∷_, _++_, map}
 use mathlib.Core.Bool.{true}
 use Prim.Native.Nat.{ℕ, _+_, _<_}
+use lib.Count.{ones}
 use lib.ListN.{length, getD}
 use Rattle.std.specs.shelf.Lists.{joined}
 use Rattle.kinds.specs.Kinds.{KeyKind}
+use Rattle.model.specs.Maps.{Setting}
 use Rattle.model.specs.Tries.{at-digit, one, many}
 use Rattle.model.specs.Sharing.{Marked, Part}
 use Rattle.model.specs.Accounts.{in-row, distinct}
@@ -114,3 +116,12 @@ Digits-say-what-is-below K =
     × ((many (at-digit K (length (a .label .what)) (a .settings) g) ≡ true → getD (c .children) (rank-of (c .nodemap) g) 0 ≡ a .child g)
     × ((bit (c .datamap) g ≡ one (at-digit K (length (a .label .what)) (a .settings) g))
     × (one (at-digit K (length (a .label .what)) (a .settings) g) ≡ true → at-digit K (length (a .label .what)) (a .settings) g ≡ entry-note (getD (c .entries) (rank-of (c .datamap) g) 0) .setting ∷ [])))
+
+-- ---- a collision node is read by ranks, which follow the keys
+
+abbrev pub Ranks-follow-the-keys : KeyKind → Type 0
+Ranks-follow-the-keys K =
+    (note : ℕ → Note) (entry-note : ℕ → Entry-note) (c : NodeCell) (a : Note) → Fits K note entry-note c a → length (a .label .what) ≡ 8
+    → (kids c ≡ [])
+    × ((ones (c .datamap) ≡ length (a .settings))
+    × ((k : ℕ) (s : Setting) → k < length (a .settings) → entry-note (getD (c .entries) k 0) .setting ≡ getD (a .settings) k s))

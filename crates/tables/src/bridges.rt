@@ -1,7 +1,7 @@
 // What follows from the contracts of the tables for the versions in them.
 // The function here stands for theorems, which its contract names: it answers 0 and does nothing,
 // and the crate is proved only with the theorems' proofs.
-ghost use Rattle.tables.specs.Bridges.{Versions-outlive-others, Versions-outlive-holds, Versions-outlive-entry-holds, New-nodes-mean-their-notes, New-entries-mean-their-notes, Holds-leave-entries, New-nodes-take-over-entries, Held-nodes-are-owned, Held-entries-are-owned, Free-cells-are-the-rest, Digits-say-what-is-below};
+ghost use Rattle.tables.specs.Bridges.{Versions-outlive-others, Versions-outlive-holds, Versions-outlive-entry-holds, New-nodes-mean-their-notes, New-entries-mean-their-notes, Holds-leave-entries, New-nodes-take-over-entries, Held-nodes-are-owned, Held-entries-are-owned, Free-cells-are-the-rest, Digits-say-what-is-below, Ranks-follow-the-keys};
 use kinds::Key;
 use kinds::Value;
 
@@ -18,6 +18,7 @@ pub fn tables_stand<K: Key, V: Value>() -> u8
     ensures entry_owned { λ _. ⌜ Held-entries-are-owned (K·Key .kind) (K·Key .bytes) (V·Value .bytes) ⌝ }
     ensures free { λ _. ⌜ Free-cells-are-the-rest (K·Key .kind) (K·Key .bytes) (V·Value .bytes) ⌝ }
     ensures digits { λ _. ⌜ Digits-say-what-is-below (K·Key .kind) ⌝ }
+    ensures ranks { λ _. ⌜ Ranks-follow-the-keys (K·Key .kind) ⌝ }
 {
     0
 }

@@ -2,7 +2,7 @@ use Rattle.tables.proofs.Frames.{released-means, released-stands, frame-more, 
 use Rattle.tables.proofs.Makes.{node-made-means, entry-made-means, noted-same, noted-other, made-stands}
 use Rattle.tables.proofs.Reach.{nodes-reached, reached-nodes, entries-reached, reached-entries, nodes-free, entries-free}
 use Rattle.tables.proofs.Views.{held-entries, held-entryless, made-entries, made-entryless}
-use Rattle.tables.proofs.Ranks.{child-bit, child-slot, entry-bit, entry-slot}
+use Rattle.tables.proofs.Ranks.{child-bit, child-slot, entry-bit, entry-slot, no-children, as-many, by-key}
 use Rattle.tables.proofs.bridges.tables_stand.Needs as need
 
 pub returns : need.returns
@@ -39,5 +39,9 @@ returns g c =
       digits = λ note entry-note n a d fits shallow small. (
         child-bit K note entry-note n a fits shallow d small,
         (child-slot K note entry-note n a fits shallow d small, (entry-bit K note entry-note n a fits shallow d small, entry-slot K note entry-note n a fits shallow d small)),
+      );
+      ranks = λ note entry-note n a fits deep. (
+        no-children K note entry-note n a fits deep,
+        (as-many K note entry-note n a fits deep, by-key K note entry-note n a fits deep),
       );
     }
