@@ -1,20 +1,20 @@
 -- Texts and their filling. Assumes nothing.
 use mathlib.Core.Path.{_≡_, refl, sym, ap, ap₂, _∙_}
 use mathlib.Core.List.{List, [], _∷_, _++_}
-use mathlib.Core.Bool.{Bool, true, false, cond, _&&_}
-use mathlib.Core.Logic.{_⊎_, inl, inr}
-use Prim.Native.Nat.{ℕ, _+_, _-_, _*_, _%_, _^_, _<_, _≤_, suc, zero}
+use mathlib.Core.Bool.{Bool, true, false, _&&_}
+use mathlib.Core.Logic.{_⊎_}
+use Prim.Native.Nat.{ℕ, _+_, _-_, _^_, _<_, _≤_, suc, zero}
 use native.Mathlib.Omega.{arith}
 use lib.ListN.{length, replicate, getD, take, drop, length-append, length-replicate}
 use Rattle.std.proofs.shelf.Lists.{at-drop-more, at-drop-all, append-nil, append-assoc, take-more, take-all, take-append-drop, drop-at, length-drop, length-take-le, drop-replicate, getD-replicate, replicate-more}
-use lib.Dec.{eqb, ltb, leb}
+use lib.Dec.{eqb, leb}
 use Rattle.std.specs.Iters.{folded}
-use Rattle.std.proofs.shelf.Tests.{and-parts, and-from, and-left, and-right, eqb-true, eq-eqb, lt-ltb, leb-true, le-leb, cond-true, cond-false, ne-eqb, false≢true}
+use Rattle.std.proofs.shelf.Tests.{and-parts, and-from, and-left, eqb-true, eq-eqb, lt-ltb, leb-true, le-leb, cond-true, cond-false, ne-eqb, false≢true}
 use Rattle.std.specs.Orderings.{Decides}
 use Rattle.std.proofs.shelf.Ways.{tells, same-from-decides}
-use Rattle.bytes.specs.Rows.{same, byte-row, written}
+use Rattle.bytes.specs.Rows.{byte-row, written}
 use Rattle.bytes.specs.Texts.{printable, all-printable, text-of, filled, unfilled, text-row, fnv-step, fnv}
-use Rattle.bytes.proofs.Orders.{same-decides, same-tells}
+use Rattle.bytes.proofs.Orders.{same-decides}
 
 unfilled-zeros : (n : ℕ) → unfilled (replicate n 0) ≡ []
 unfilled-zeros zero = refl

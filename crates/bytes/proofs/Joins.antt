@@ -1,22 +1,20 @@
 -- The joins of rows are joins: closed, associative, commutative, idempotent. Assumes nothing.
-use mathlib.Core.Path.{_≡_, refl, sym, ap, ap₂, subst, _∙_}
-use mathlib.Core.List.{List, [], _∷_, _++_}
+use mathlib.Core.Path.{_≡_, refl, sym, ap, ap₂, _∙_}
+use mathlib.Core.List.{List, _++_}
 use mathlib.Core.Bool.{Bool, true, false, cond, _&&_, _||_}
-use Prim.Native.Nat.{ℕ, _+_, _*_, _/_, _%_, _^_, _<_, _≤_, suc, zero, max}
-use native.Mathlib.Nat.{pow-suc}
+use Prim.Native.Nat.{ℕ, _+_, _*_, _/_, _%_, _^_, _<_, suc, zero, max}
 use native.Mathlib.Omega.{arith}
-use lib.Bits.{bitOr, or-step, or-shr, or-comm, or-self, or-lt}
+use lib.Bits.{bitOr, or-step, or-comm, or-self, or-lt}
 use lib.Dec.{ltb, eqb}
-use lib.IntN.{ℤ, pos, negsuc}
-use lib.ListN.{length, take, drop, take-append-drop, length-take, length-drop}
+use lib.ListN.{take, drop, take-append-drop, length-take, length-drop}
 use lib.Signed.{ltZ}
 use mir.Syntax.{w16}
 use mir.Val.{toZ}
 use Rattle.std.proofs.shelf.Signed.{ints}
-use Rattle.std.proofs.shelf.Tests.{and-parts, and-from, eq-eqb}
+use Rattle.std.proofs.shelf.Tests.{and-from, eq-eqb}
 use Rattle.std.proofs.shelf.Ways.{tells}
-use Rattle.bytes.specs.Rows.{byte-row, row-of, in-bytes, number}
-use Rattle.bytes.specs.Joins.{larger, either-flags, stamp, offset, gives-way, later}
+use Rattle.bytes.specs.Rows.{row-of, in-bytes, number}
+use Rattle.bytes.specs.Joins.{larger, either-flags, stamp, gives-way, later}
 use Rattle.bytes.proofs.Numbers.{byte-row-take, byte-row-drop, number-one, number-below, in-bytes-number, in-bytes-fills, row-number, row-parts}
 
 -- the one of higher rank, the first where neither is higher

@@ -1,9 +1,9 @@
 -- Numbers in rows of bytes. Assumes nothing.
 use mathlib.Core.Path.{_≡_, refl, sym, ap, subst, _∙_}
 use mathlib.Core.List.{List, [], _∷_}
-use mathlib.Core.Bool.{Bool, true, false, _&&_}
-use Prim.Native.Nat.{ℕ, _+_, _*_, _/_, _%_, _^_, _<_, _≤_, suc, zero}
-use native.Mathlib.Nat.{mod-lt, mod-eq-of-lt, mul-comm, pow-suc}
+use mathlib.Core.Bool.{true, false}
+use Prim.Native.Nat.{ℕ, _+_, _*_, _/_, _%_, _^_, _<_, suc, zero}
+use native.Mathlib.Nat.{mod-eq-of-lt, mul-comm, pow-suc}
 use native.Mathlib.Omega.{arith}
 use lib.Arith.{mod-mul, digits-lt, digits-div, digits-mod}
 use lib.ListN.{length, getD, take, drop}

@@ -1,18 +1,17 @@
 -- Rows that are the same, and rows in order. Assumes nothing.
-use mathlib.Core.Path.{_≡_, refl, sym, ap, subst, _∙_}
+use mathlib.Core.Path.{_≡_, refl, sym}
 use mathlib.Core.List.{List, [], _∷_}
-use mathlib.Core.Bool.{Bool, true, false, _&&_, _||_}
+use mathlib.Core.Bool.{Bool, true, false}
 use mathlib.Core.Logic.{_⊎_, inl, inr}
 use Prim.Native.Nat.{ℕ, _<_}
 use native.Mathlib.Omega.{arith}
 use borrow.Author.Needs.{needs}
-use lib.Dec.{eqb, ltb}
 use Rattle.std.specs.declared.cmp.Ordering.{Ordering}
 use Rattle.std.specs.declared.cmp.Ordering.the-variants.{Less, Equal, Greater}
 use Rattle.std.specs.Lexical.{Lex}
 use Rattle.std.specs.Orderings.{Decides, Ranked}
 use Rattle.std.proofs.shelf.Equals.{compares-decides}
-use Rattle.std.proofs.shelf.Tests.{cases-bool, false≢true, both-ways, eq-eqb, lt-ltb}
+use Rattle.std.proofs.shelf.Tests.{false≢true, both-ways}
 use Rattle.std.proofs.shelf.Ways.{tells}
 use Rattle.bytes.specs.Rows.{same, earlier}
 

@@ -2,13 +2,13 @@
 use mathlib.Core.Path.{_≡_, refl, sym, ap, ap₂, _∙_}
 use mathlib.Core.List.{List, [], _∷_, _++_}
 use mathlib.Core.Bool.{true}
-use Prim.Native.Nat.{ℕ, _+_, _*_, _<_, _^_, suc}
+use Prim.Native.Nat.{ℕ, _+_, _*_, _<_, _^_}
 use native.Mathlib.Omega.{arith}
 use lib.IntN.{ℤ, pos, negsuc}
 use lib.ListN.{length, take, drop, getD}
 use lib.Signed.{mag}
 use mir.Syntax.{w8, w16}
-use mir.Val.{Fits, SFits, toZ, ofZ}
+use mir.Val.{Fits, toZ, ofZ}
 use Rattle.std.proofs.shelf.Signed.{toZ-ofZ, ofZ-toZ}
 use Rattle.std.proofs.shelf.Tests.{and-from, eq-eqb}
 use Rattle.bytes.specs.Rows.{row-of, in-bytes}

@@ -1,6 +1,6 @@
 -- Printable texts, filled up to a width, and their hash. Assumes nothing.
 use mathlib.Core.List.{List, [], _∷_, _++_}
-use mathlib.Core.Bool.{Bool, true, false, cond, _&&_}
+use mathlib.Core.Bool.{Bool, true, cond, _&&_}
 use Prim.Native.Nat.{ℕ, _-_, _*_, _%_, _^_}
 use lib.ListN.{length, replicate}
 use lib.Bits.{bitXor}

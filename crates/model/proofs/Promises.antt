@@ -1,7 +1,6 @@
 -- What holds after every list of calls, together. Assumes nothing.
-use mathlib.Core.Path.{_≡_, refl, sym, ap, _∙_}
-use mathlib.Core.List.{List, map, List·Memᴰ, List·Memᴰ·head, List·Memᴰ·tail}
-use mathlib.Core.Bool.{true}
+use mathlib.Core.Path.{_≡_, ap}
+use mathlib.Core.List.{List, List·Memᴰ, List·Memᴰ·head, List·Memᴰ·tail}
 use Prim.Native.Nat.{ℕ, _≤_, _<_, _^_}
 use native.Mathlib.Omega.{arith}
 use lib.ListN.{length}
@@ -9,9 +8,8 @@ use Rattle.std.specs.declared.option.Option.the-variants.{Some}
 use Rattle.std.specs.shelf.Lists.{All}
 use Rattle.kinds.specs.Kinds.{KeyKind, ValueKind}
 use Rattle.model.specs.Images.{image}
-use Rattle.model.specs.Tries.{Lawful}
 use Rattle.model.specs.Sharing.{Marked}
-use Rattle.model.specs.Accounts.{Version, Account, distinct, held-entries}
+use Rattle.model.specs.Accounts.{Version, Account, held-entries}
 use Rattle.model.specs.Runs.{live, Reached, Live-maps-are-lawful, Marked-nodes-are-the-trie, Marked-entries-are-the-keys, Marks-are-numbers-of-calls, Held-things-can-be-listed, Tables-hold-all, Equal-images-mean-equal-maps, Free-is-what-no-version-holds, Same-names-mean-one-image, Merge-is-symmetric}
 use Rattle.model.proofs.Counts.{distinct-within, distinct-length, in-row-member, member-in-row}
 use Rattle.model.proofs.Holding.{live-held}

@@ -1,22 +1,22 @@
 -- What every reached account keeps: marks that stand for the trie and the keys, and tables that hold all. Assumes nothing.
 use mathlib.Core.Path.{_≡_, refl, sym, ap, subst, _∙_}
 use mathlib.Core.List.{List, [], _∷_, _++_, map, List·Memᴰ}
-use mathlib.Core.Bool.{Bool, true, false}
+use mathlib.Core.Bool.{true, false}
 use mathlib.Core.Logic.{_⊎_, inl, inr}
 use Prim.Native.Nat.{ℕ, _+_, _-_, _≤_}
 use native.Mathlib.Omega.{arith}
 use lib.ListN.{set}
-use Rattle.std.specs.declared.option.Option.the-variants.{Some, None}
+use Rattle.std.specs.declared.option.Option.the-variants.{Some}
 use Rattle.std.specs.Options.{isSome}
 use Rattle.std.specs.shelf.Lists.{All}
 use Rattle.std.proofs.shelf.Elements.{all-weaker}
 use Rattle.std.proofs.shelf.Tests.{false≢true}
 use Rattle.kinds.specs.Kinds.{KeyKind, ValueKind}
-use Rattle.model.specs.Maps.{Map, look, union, Sound}
-use Rattle.model.specs.Sharing.{Marked, Part, Shared, shared, no-share}
-use Rattle.model.specs.Accounts.{Version, Place, empty, draft, published, Account, nth, fresh, whole, in-row, distinct, held-nodes, held-entries, free-nodes, free-entries}
-use Rattle.model.specs.Calls.{Call, Outcome, at, now, version, named, after}
-use Rattle.model.specs.Runs.{live, Made, Reached, Lists-once}
+use Rattle.model.specs.Maps.{Map, look, union}
+use Rattle.model.specs.Sharing.{Marked, Part, Shared, no-share}
+use Rattle.model.specs.Accounts.{Version, Place, empty, draft, published, Account, whole, in-row, distinct, held-nodes, held-entries}
+use Rattle.model.specs.Calls.{Call, at, now, version, after}
+use Rattle.model.specs.Runs.{live, Made, Reached}
 use Rattle.model.specs.Reading.{Only-images-are-accepted}
 use Rattle.model.proofs.Counts.{member-in-row}
 use Rattle.model.proofs.Holding.{held, of-place, held-at}

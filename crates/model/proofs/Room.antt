@@ -1,7 +1,7 @@
 -- What is held fits the tables, call after call, and free is what is left. Assumes nothing.
-use mathlib.Core.Path.{_≡_, refl, sym, ap, _∙_}
-use mathlib.Core.List.{List, [], _∷_, _++_, List·Memᴰ}
-use mathlib.Core.Bool.{Bool, true, false, _||_}
+use mathlib.Core.Path.{_≡_, sym, _∙_}
+use mathlib.Core.List.{List, _++_, List·Memᴰ}
+use mathlib.Core.Bool.{true, _||_}
 use mathlib.Core.Logic.{_⊎_, inl, inr}
 use Prim.Native.Nat.{ℕ, _+_, _-_, _≤_}
 use native.Mathlib.Omega.{arith}
@@ -10,7 +10,7 @@ use Rattle.std.proofs.shelf.Tests.{or-left, or-right}
 use Rattle.kinds.specs.Kinds.{KeyKind, ValueKind}
 use Rattle.model.specs.Sharing.{Marked}
 use Rattle.model.specs.Accounts.{Version, Place, Account, in-row, distinct, held-nodes, held-entries}
-use Rattle.model.specs.Calls.{Answer, spare, outcome, Free}
+use Rattle.model.specs.Calls.{spare, outcome, Free}
 use Rattle.model.specs.Runs.{live, Lists-once, Holds-node, Holds-entry}
 use Rattle.std.specs.declared.option.Option.the-variants.{Some}
 use Rattle.model.proofs.Counts.{in-append, in-row-member, member-in-row, distinct-within, counted-once, once, in-once, once-differ}

@@ -5,7 +5,7 @@ use mathlib.Core.Bool.{Bool, true, false, cond}
 use Prim.Native.Nat.{ℕ, _≤_, suc}
 use native.Mathlib.Omega.{arith}
 use lib.ListN.{length, length-map}
-use Rattle.std.specs.declared.option.Option.the-variants.{Some, None}
+use Rattle.std.specs.declared.option.Option.the-variants.{Some}
 use Rattle.std.specs.Options.{isSome}
 use Rattle.std.specs.shelf.Lists.{All}
 use Rattle.std.proofs.shelf.Tests.{both-ways}
@@ -14,7 +14,6 @@ use Rattle.bytes.proofs.Orders.{same-decides}
 use Rattle.kinds.specs.Kinds.{KeyKind}
 use Rattle.model.specs.Maps.{Setting, Map, keys, look, Rises}
 use Rattle.model.specs.Sharing.{Marked}
-use Rattle.model.specs.Accounts.{distinct}
 use Rattle.model.specs.Runs.{Distinct, Lists-once}
 
 -- ---- a row without a member

@@ -1,11 +1,10 @@
 -- The plain account of a store: places with their versions, and no cell. Assumes nothing.
 use mathlib.Core.List.{List, [], _∷_, map}
-use mathlib.Core.Bool.{Bool, true, false, cond, _&&_, _||_}
+use mathlib.Core.Bool.{Bool, false, cond, _&&_, _||_}
 use Prim.Native.Nat.{ℕ, _+_, _-_, suc, zero}
 use lib.Dec.{eqb}
 use lib.ListN.{replicate}
 use Rattle.std.specs.declared.option.Option.{Option}
-use Rattle.std.specs.declared.option.Option.the-variants.{Some, None}
 use Rattle.bytes.specs.Rows.{same}
 use Rattle.model.specs.Maps.{Map}
 use Rattle.model.specs.Tries.{concat}

@@ -1,7 +1,7 @@
 -- How an image is judged: the map that it is of, or the first faulty command. Assumes nothing.
 use mathlib.Core.Path.{_≡_}
 use mathlib.Core.List.{List, [], _∷_, _++_}
-use mathlib.Core.Bool.{Bool, true, false, cond, _&&_, _||_}
+use mathlib.Core.Bool.{Bool, true, cond, _&&_, _||_}
 use Prim.Native.Nat.{ℕ, _+_, _/_, _%_, _^_, suc, zero}
 use lib.ListN.{length, take, drop}
 use lib.Dec.{eqb, ltb, leb}

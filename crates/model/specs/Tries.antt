@@ -6,7 +6,7 @@ use lib.Dec.{eqb, ltb, leb}
 use lib.ListN.{length}
 use Rattle.std.specs.shelf.Lists.{All}
 use Rattle.kinds.specs.Kinds.{KeyKind, ValueKind}
-use Rattle.model.specs.Maps.{Setting, Map, Rises, Readable}
+use Rattle.model.specs.Maps.{Map, Rises, Readable}
 
 abbrev pub filter : {A : Type 0} → (A → Bool) → List A → List A
 filter p [] = []

@@ -1,14 +1,14 @@
 -- One setting more, found place by place. Assumes nothing.
 use mathlib.Core.Path.{_≡_, refl, sym, ap, subst, _∙_}
 use mathlib.Core.List.{List, [], _∷_, _++_, map}
-use mathlib.Core.Bool.{Bool, true, false, cond}
-use Prim.Native.Nat.{ℕ, _+_, _≤_, _<_, suc}
+use mathlib.Core.Bool.{Bool, true, false}
+use Prim.Native.Nat.{ℕ, _+_, _≤_, _<_}
 use native.Mathlib.Numerals.{add-one}
 use native.Mathlib.Omega.{arith}
 use lib.ListN.{length, getD, set, take, drop, length-append, length-take, length-drop}
 use Rattle.std.specs.Holes.{inserted}
 use Rattle.std.proofs.shelf.Lists.{at-drop-more, at-drop-all, append-assoc, take-more, take-all, drop-all, drop-more, set-split, getD-map, map-set, map-append, take-map, drop-map, length-map}
-use Rattle.std.proofs.shelf.Tests.{cond-true, cond-false, cases-bool, both-ways}
+use Rattle.std.proofs.shelf.Tests.{cond-true, cond-false, both-ways}
 use Rattle.kinds.specs.Kinds.{KeyKind, ValueKind}
 use Rattle.sovindrate.specs.declared.sheet.Setting.{Setting}
 use Rattle.sovindrate.specs.declared.sheet.Spot.the-variants.{Same, Before}

@@ -1,7 +1,7 @@
 -- What a sheet of settings means, and what one more setting makes of it. Assumes nothing.
 use mathlib.Core.Path.{_≡_}
 use mathlib.Core.List.{List, [], _∷_, map}
-use mathlib.Core.Bool.{Bool, true, false, cond}
+use mathlib.Core.Bool.{cond}
 use Prim.Native.Nat.{ℕ}
 use Rattle.kinds.specs.Kinds.{KeyKind, ValueKind}
 use lib.ListN.{length, getD, set}

@@ -6,18 +6,18 @@ use Prim.Native.Nat.{ℕ, _+_, _-_, _<_, _≤_, suc, zero}
 use native.Mathlib.Omega.{arith}
 use lib.Count.{ones}
 use lib.ListN.{length, getD, set, length-set, take, drop, length-append}
-use Rattle.std.proofs.shelf.Lists.{getD-set-same, getD-set-other, append-assoc, append-nil, take-more, take-all}
+use Rattle.std.proofs.shelf.Lists.{append-assoc, append-nil, take-more, take-all}
 use Rattle.std.proofs.shelf.Sums.{sumBy-set}
-use Rattle.std.proofs.shelf.Tests.{cases-eq, cases-lt}
+use Rattle.std.proofs.shelf.Tests.{cases-lt}
 use Rattle.tables.specs.declared.cells.NodeCell.{NodeCell}
 use Rattle.tables.specs.declared.cells.EntryCell.{EntryCell}
-use Rattle.tables.specs.Chains.{occ, Linked, Chain}
+use Rattle.tables.specs.Chains.{occ, Linked}
 use Rattle.tables.specs.Cells.{blank, cell, entry-cell, listed, kids, singles}
 use Rattle.tables.specs.Heaps.{Nodes, Entries, Entryless, inner, inner-entries, Node-left, Entry-left, Nodes-released, Entry-released, Released}
 use Rattle.tables.specs.Walks.{walk, after, cleared, Entries-released, Cleared}
 use Rattle.tables.proofs.Occurrences.{hit-same, hit-other, occ-nil, occ-cons, occ-append, split-at}
 use Rattle.tables.proofs.Chains.{chain-kept}
-use Rattle.tables.proofs.NodeCounts.{length-listed, listed-at, sum-same, cell-past}
+use Rattle.tables.proofs.NodeCounts.{length-listed, listed-at, sum-same, cell-past, at-set}
 use Rattle.tables.proofs.Walking.{walk-more, after-more, walk-linked, walk-within, after-walked}
 
 -- ---- one cell is cleared
@@ -25,13 +25,6 @@ use Rattle.tables.proofs.Walking.{walk-more, after-more, walk-linked, walk-wit
 no-singles : (c : NodeCell) → singles (cleared c) ≡ []
 unfolding listed ones
 no-singles c = refl
-
-set-cell : (cs : List NodeCell) (j i : ℕ) (y : NodeCell) → j < length cs → ((i ≡ j) × (cell (set cs j y) i ≡ y)) ⊎ ((i ≡ j → ⊥) × (cell (set cs j y) i ≡ cell cs i))
-set-cell cs j i y h = go (cases-eq i j)
-  where
-    go : (i ≡ j) ⊎ (i ≡ j → ⊥) → ((i ≡ j) × (cell (set cs j y) i ≡ y)) ⊎ ((i ≡ j → ⊥) × (cell (set cs j y) i ≡ cell cs i))
-    go (inl e) = inl (e, ap (cell (set cs j y)) e ∙ getD-set-same cs j y blank h)
-    go (inr n) = inr (n, getD-set-other cs j i y blank n)
 
 module _ (cs : List NodeCell) (at : ℕ) (inside : at < length cs) where
   abbrev cs0 : List NodeCell
@@ -48,6 +41,7 @@ module _ (cs : List NodeCell) (at : ℕ) (inside : at < length cs) where
   entries-view es f s E h = record {
     counted = λ e. h .counted e ∙ omega (arith, occ-append e (singles (cell cs at)) E, counts e);
     filled = h .filled;
+    emptied = h .emptied;
     short = h .short;
     chain = h .chain;
   }
@@ -56,19 +50,17 @@ module _ (cs : List NodeCell) (at : ℕ) (inside : at < length cs) where
   cleared-one es f s fs g t r = record {
     nodes-long = length-set cs at (cleared (cell cs at));
     entries-long = r .long;
-    here = λ i h. here i h (set-cell cs at i (cleared (cell cs at)) inside);
-    other = λ i h. other i h (set-cell cs at i (cleared (cell cs at)) inside);
+    here = λ i h.
+        at-set cs at (cleared (cell cs at)) inside (λ (c : NodeCell). c ≡ cleared (cell cs i)) i
+        (λ e. ap (λ (n : ℕ). cleared (cell cs n)) (sym e))
+        (λ n. absurd (omega (arith, occ-cons i at [], occ-nil i, hit-other i at n)));
+    other = λ i h.
+        at-set cs at (cleared (cell cs at)) inside (λ (c : NodeCell). c ≡ cell cs i) i
+        (λ e. absurd (omega (arith, occ-cons i at [], occ-nil i, hit-same i at e)))
+        (λ n. refl);
     left = r .left;
     entries = λ E h. r .entries cs0 E (entries-view es f s E h);
   }
-    where
-      here : (i : ℕ) → 0 < occ i (at ∷ []) → ((i ≡ at) × (cell cs0 i ≡ cleared (cell cs at))) ⊎ ((i ≡ at → ⊥) × (cell cs0 i ≡ cell cs i)) → cell cs0 i ≡ cleared (cell cs i)
-      here i h (inl (e, q)) = q ∙ ap (λ n. cleared (cell cs n)) (sym e)
-      here i h (inr (n, q)) = absurd (omega (arith, occ-cons i at [], occ-nil i, hit-other i at n))
-
-      other : (i : ℕ) → occ i (at ∷ []) ≡ 0 → ((i ≡ at) × (cell cs0 i ≡ cleared (cell cs at))) ⊎ ((i ≡ at → ⊥) × (cell cs0 i ≡ cell cs i)) → cell cs0 i ≡ cell cs i
-      other i h (inl (e, q)) = absurd (omega (arith, occ-cons i at [], occ-nil i, hit-same i at e))
-      other i h (inr (n, q)) = q
 
 -- ---- entries that are given up one after another
 
@@ -226,6 +218,7 @@ module _ {K V : Type 0} (r : ℕ) (cs : List NodeCell) (f s : ℕ) (es : List (E
   entries-stay E h = record {
     counted = λ e. h .counted e ∙ ap (λ (n : ℕ). occ e E + n) (sym (sum-same (λ (c : NodeCell). occ e (singles c)) cs bs (gone .long) (λ k. ap (occ e) (ap₂ listed (gone .data-kept k .0) (gone .data-kept k .1)))));
     filled = h .filled;
+    emptied = h .emptied;
     short = h .short;
     chain = h .chain;
   }

@@ -6,7 +6,7 @@ use mathlib.Core.Logic.{inl, inr}
 use Prim.Native.Nat.{ℕ, _+_, _-_, _*_, _<_, _≤_}
 use native.Mathlib.Omega.{arith}
 use lib.Count.{ones}
-use lib.ListN.{length, getD, set, length-set}
+use lib.ListN.{length, set, length-set}
 use Rattle.std.specs.Options.{isSome}
 use Rattle.std.specs.declared.option.Option.{Option}
 use Rattle.std.specs.declared.option.Option.the-variants.{None}
@@ -17,11 +17,12 @@ use Rattle.std.proofs.shelf.Tests.{cases-eq, cases-lt}
 use Rattle.tables.specs.declared.cells.NodeCell.{NodeCell}
 use Rattle.tables.specs.declared.cells.EntryCell.{EntryCell}
 use Rattle.tables.specs.Chains.{occ}
-use Rattle.tables.specs.Cells.{blank, cell, blank-entry, entry-cell, listed, singles}
+use Rattle.tables.specs.Cells.{blank, cell, blank-entry, entry-cell, singles}
 use Rattle.tables.specs.Heaps.{inner-entries, Entries, Entry-left, Entry-held, Entry-made, Entry-released}
 use Rattle.tables.proofs.Occurrences.{hit, hit-same, hit-other, occ-cons, occ-head, occ-le-length}
 use Rattle.tables.proofs.Chains.{chain-kept, chain-pushed, chain-taken, chain-counting, head-free}
 use Rattle.tables.proofs.NodeCounts.{length-listed}
+use Rattle.tables.proofs.Written as written
 
 -- ---- how often an entry stands in nodes
 
@@ -57,11 +58,7 @@ module _ {K V : Type 0} where
   module _ (es : List (EntryCell K V)) (j : ℕ) (y : EntryCell K V) (h : j < length es) where
     -- what holds of the new cell, and of each other
     pub at-set : (P : EntryCell K V → Type 0) (i : ℕ) → (i ≡ j → P y) → ((i ≡ j → ⊥) → P (entry-cell es i)) → P (entry-cell (set es j y) i)
-    at-set P i same other =
-        elim (cases-eq i j) [
-          | inl e ↦ subst P (sym (ap (λ (n : ℕ). entry-cell (set es j y) n) e ∙ getD-set-same es j y blank-entry h)) (same e)
-          | inr n ↦ subst P (sym (getD-set-other es j i y blank-entry n)) (other n)
-        ]
+    at-set = written.at-set blank-entry es j y h
 
     set-same : entry-cell (set es j y) j ≡ y
     set-same = getD-set-same es j y blank-entry h
@@ -96,6 +93,12 @@ module _ {K V : Type 0} where
         → (e : ℕ) → 0 < entry-cell (set es j y) e .holders → isSome (entry-cell (set es j y) e .held) ≡ true
     filled-set new old e = at-set (λ (c : EntryCell K V). 0 < c .holders → isSome (c .held) ≡ true) e (λ q. new) (λ n. old e)
 
+    emptied-set :
+        (y .holders ≡ 0 → y .held ≡ None)
+        → ((e : ℕ) → entry-cell es e .holders ≡ 0 → entry-cell es e .held ≡ None)
+        → (e : ℕ) → entry-cell (set es j y) e .holders ≡ 0 → entry-cell (set es j y) e .held ≡ None
+    emptied-set new old e = at-set (λ (c : EntryCell K V). c .holders ≡ 0 → c .held ≡ None) e (λ q. new) (λ n. old e)
+
     left-set : Entry-left (entry-cell es j) y → (i : ℕ) → Entry-left (entry-cell es i) (entry-cell (set es j y) i)
     left-set l i =
         at-set (λ (c : EntryCell K V). Entry-left (entry-cell es i) c) i
@@ -121,6 +124,7 @@ module _ {K V : Type 0} where
         entries = λ cs R H. record {
           counted = λ i. omega (arith, more i, H .counted i, occ-cons i e R);
           filled = filled-set es e y p (λ q. H .filled e held) (H .filled);
+          emptied = emptied-set es e y p (λ z. absurd (omega arith)) (H .emptied);
           short = rw length-set (H .short);
           chain = chain-kept _ _ _ _ (length es) _ f s (length-set es e y) (H .chain)
               (λ i z. (next-set es e y p refl i, omega (arith, more i, hit-other i e (λ q. omega (arith, ap (λ (n : ℕ). entry-cell es n .holders) q)))))
@@ -144,6 +148,7 @@ module _ {K V : Type 0} where
         entries = λ cs R H. record {
           counted = λ i. omega (arith, more-set es f y (was .0) (omega arith) i, H .counted i, occ-cons i f R);
           filled = filled-set es f y (was .0) (λ q. is-some) (H .filled);
+          emptied = emptied-set es f y (was .0) (λ z. absurd (omega arith)) (H .emptied);
           short = rw length-set (H .short);
           chain = chain-taken _ _ _ _ (length es) _ f s (length-set es f y) (H .chain) some
               (omega (arith, ap (λ (c : EntryCell K V). c .holders) (set-same es f y (was .0))))
@@ -166,6 +171,7 @@ module _ {K V : Type 0} where
         entries = λ cs R H. record {
           counted = λ i. omega (arith, less i, H .counted i, occ-cons i e R);
           filled = filled-set es e y p (λ q. ap (λ (o : Option (K × V)). isSome o) same-held ∙ H .filled e (omega arith)) (H .filled);
+          emptied = emptied-set es e y p (λ z. absurd (omega arith)) (H .emptied);
           short = rw length-set (H .short);
           chain = chain-kept _ _ _ _ (length es) _ f s (length-set es e y) (H .chain)
               (λ i z. (next-set es e y p same-next i, omega (arith, less i)))
@@ -178,9 +184,9 @@ module _ {K V : Type 0} where
 
   -- the last one: the cell goes to the chain
   pub last-released :
-      (es : List (EntryCell K V)) (f s e : ℕ) (y : EntryCell K V) → y .holders ≡ 0 → y .next ≡ f → entry-cell es e .holders ≡ 1
+      (es : List (EntryCell K V)) (f s e : ℕ) (y : EntryCell K V) → y .holders ≡ 0 → y .held ≡ None → y .next ≡ f → entry-cell es e .holders ≡ 1
       → Entry-released e es f s (set es e y) e (s + 1)
-  last-released es f s e y none first last =
+  last-released es f s e y none nothing first last =
       let p : e < length es = inside-entries es e (omega arith) in
       let less = fewer-set es e y p (omega arith) in
       record {
@@ -189,6 +195,7 @@ module _ {K V : Type 0} where
         entries = λ cs R H. record {
           counted = λ i. omega (arith, less i, H .counted i, occ-cons i e R);
           filled = filled-set es e y p (λ q. absurd (omega arith)) (H .filled);
+          emptied = emptied-set es e y p (λ z. nothing) (H .emptied);
           short = rw length-set (H .short);
           chain = chain-pushed _ _ _ _ (length es) _ f s (length-set es e y) (H .chain) e p (omega arith)
               (ap (λ (c : EntryCell K V). c .holders) (set-same es e y p) ∙ none)
@@ -201,6 +208,7 @@ module _ {K V : Type 0} where
 
   -- a free cell before the cell n in the chain
   pub record Unheld (c : EntryCell K V) (n : ℕ) : Type 0 where
+    pub held : c .held ≡ None
     pub holders : c .holders ≡ 0
     pub next : c .next ≡ n
 
@@ -216,6 +224,10 @@ module _ {K V : Type 0} where
       record {
         counted = λ i. omega (arith, no-holder i, none i);
         filled = λ i p. absurd (omega (arith, no-holder i));
+        emptied = λ i z. elim (cases-lt i (length es)) [
+          | inl p ↦ all i p .held
+          | inr p ↦ ap (λ (c : EntryCell K V). c .held) (getD-past es i blank-entry p)
+        ];
         short = short;
         chain = chain-counting _ _ (length es) (λ i p. (all i p .next, all i p .holders));
       }
@@ -244,7 +256,7 @@ module _ {K V : Type 0} where
         → Entry-released e es f s fs e (s + 1)
     last-step held last is =
         subst (λ (x : List (EntryCell K V)). Entry-released e es f s x e (s + 1)) (sym is)
-        (last-released es f s e _ refl refl (omega (arith, same-holders)))
+        (last-released es f s e _ refl refl refl (omega (arith, same-holders)))
 
   pub made-step :
       (es fs : List (EntryCell K V)) (f s : ℕ) (old y : EntryCell K V) (cs : List NodeCell) (R : List ℕ) → Entries cs es f s R → 0 < s

@@ -1,13 +1,10 @@
 -- What the cells mean, as they are held once more or given up. Assumes nothing.
-use mathlib.Core.Path.{_≡_, refl, sym, ap, ap₂, subst, _∙_}
-use mathlib.Core.List.{List, [], _∷_, _++_, map}
-use mathlib.Core.Logic.{inl, inr}
+use mathlib.Core.Path.{_≡_, refl, sym, ap, ap₂, _∙_}
+use mathlib.Core.List.{List, _∷_, _++_, map}
 use Prim.Native.Nat.{ℕ, _+_, _<_}
 use native.Mathlib.Omega.{arith}
 use lib.ListN.{length, set}
 use Rattle.std.specs.shelf.Lists.{joined}
-use Rattle.std.proofs.shelf.Lists.{getD-set-same, getD-set-other, getD-past}
-use Rattle.std.proofs.shelf.Tests.{cases-eq, cases-lt}
 use Rattle.kinds.specs.Kinds.{KeyKind}
 use Rattle.model.specs.Sharing.{Part}
 use Rattle.tables.specs.declared.cells.NodeCell.{NodeCell}
@@ -18,6 +15,7 @@ use Rattle.tables.specs.Heaps.{Nodes, Entries, Entryless, Node-left, Entry-lef
 use Rattle.tables.specs.Notes.{Note, Entry-note, seat, branches, Fits, Entry-fits, Means, Stands}
 use Rattle.tables.proofs.NodeCounts.{inside}
 use Rattle.tables.proofs.EntryCounts.{inside-entries}
+use Rattle.tables.proofs.Written.{at-each}
 
 -- ---- what is held was held, and has what it had
 
@@ -89,29 +87,12 @@ module _ {X Y : Type 0} (K : KeyKind) (kb : X → List ℕ) (vb : Y → List ℕ
 pub stands-kept : (cs ds : List NodeCell) (note : ℕ → Note) (i : ℕ) (p : List ℕ) (a : Part) → 0 < cell ds i .holders → Stands cs note i p a → Stands ds note i p a
 stands-kept cs ds note i p a h S = record { held = h; prefix = S .prefix; settings = S .settings; nodes = S .nodes; entries = S .entries }
 
--- ---- one cell is written
-
--- what holds of the new cell, and of each other
-pub at-set : (cs : List NodeCell) (j : ℕ) (y : NodeCell) → j < length cs → (P : ℕ → NodeCell → Type 0) → P j y → ((i : ℕ) → (i ≡ j → ⊥) → P i (cell cs i)) → (i : ℕ) → P i (cell (set cs j y) i)
-at-set cs j y h P same other i =
-    elim (cases-eq i j) [
-      | inl e ↦ let Q : ℕ → Type 0 = λ k. P k (cell (set cs j y) k) in subst Q (sym e) (subst (P j) (sym (getD-set-same cs j y blank h)) same)
-      | inr n ↦ subst (P i) (sym (getD-set-other cs j i y blank n)) (other i n)
-    ]
-
-pub at-entry-set : {X Y : Type 0} (es : List (EntryCell X Y)) (j : ℕ) (y : EntryCell X Y) → j < length es → (P : ℕ → EntryCell X Y → Type 0) → P j y → ((i : ℕ) → (i ≡ j → ⊥) → P i (entry-cell es i)) → (i : ℕ) → P i (entry-cell (set es j y) i)
-at-entry-set es j y h P same other i =
-    elim (cases-eq i j) [
-      | inl e ↦ let Q : ℕ → Type 0 = λ k. P k (entry-cell (set es j y) k) in subst Q (sym e) (subst (P j) (sym (getD-set-same es j y blank-entry h)) same)
-      | inr n ↦ subst (P i) (sym (getD-set-other es j i y blank-entry n)) (other i n)
-    ]
-
 -- ---- one holder more
 
 pub more-kept : (cs ds : List NodeCell) (j : ℕ) → 0 < cell cs j .holders → ds ≡ set cs j (one-more (cell cs j)) → (i : ℕ) → Node-kept (cell cs i) (cell ds i)
 more-kept cs ds j h is i =
     let P : ℕ → NodeCell → Type 0 = λ k c. Node-kept (cell cs k) c in
-    rw is (at-set cs j (one-more (cell cs j)) (inside cs j h) P
+    rw is (at-each blank cs j (one-more (cell cs j)) (inside cs j h) P
     (record { held = λ p. h; level = λ p. refl; datamap = λ p. refl; nodemap = λ p. refl; entries = λ p. refl; children = λ p. refl })
     (λ k n. same-kept (cell cs k)) i)
 
@@ -121,7 +102,7 @@ pub entry-more-kept :
     → (e : ℕ) → Entry-kept (entry-cell es e) (entry-cell fs e)
 entry-more-kept {X} {Y} es fs j h is e =
     let P : ℕ → EntryCell X Y → Type 0 = λ k c. Entry-kept (entry-cell es k) c in
-    rw is (at-entry-set es j (record { held = entry-cell es j .held; holders = entry-cell es j .holders + 1; next = entry-cell es j .next }) (inside-entries es j h) P
+    rw is (at-each blank-entry es j (record { held = entry-cell es j .held; holders = entry-cell es j .holders + 1; next = entry-cell es j .next }) (inside-entries es j h) P
     (record { was = λ p. h; held = λ p. refl })
     (λ k n. entry-same-kept (entry-cell es k)) e)
 
@@ -146,7 +127,7 @@ pub stands-more :
     → (i : ℕ) (p : List ℕ) (a : Part) → Stands cs note i p a → Stands ds note i p a
 stands-more cs ds note j h is i p a S =
     let P : ℕ → NodeCell → Type 0 = λ k c. 0 < cell cs k .holders → 0 < c .holders in
-    let held : 0 < cell ds i .holders = rw is (at-set cs j (one-more (cell cs j)) (inside cs j h) P (λ q. omega arith) (λ k n q. q) i (S .held)) in
+    let held : 0 < cell ds i .holders = rw is (at-each blank cs j (one-more (cell cs j)) (inside cs j h) P (λ q. omega arith) (λ k n q. q) i (S .held)) in
     stands-kept cs ds note i p a held S
 
 -- ---- a version is given up

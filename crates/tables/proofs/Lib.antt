@@ -1,6 +1,7 @@
 pub mod Occurrences
 pub mod Chains
 pub mod Rows
+pub mod Written
 pub mod NodeCounts
 pub mod EntryCounts
 pub mod Making
@@ -9,7 +10,7 @@ pub mod Ranks
 pub mod Walking
 pub mod Clearing
 pub mod Frames
-pub mod Makes
+pub mod Noting
 pub mod Tallies
 pub mod Reach
 pub mod Views

@@ -1,5 +1,5 @@
 -- The holders of nodes: counted over the table, and where one cell is written. Assumes nothing.
-use mathlib.Core.Path.{_≡_, refl, sym, ap, subst, _∙_}
+use mathlib.Core.Path.{_≡_, refl, sym, ap, _∙_}
 use mathlib.Core.List.{List, [], _∷_, map}
 use mathlib.Core.Logic.{inl, inr}
 use Prim.Native.Nat.{ℕ, suc, _+_, _*_, _<_, _≤_}
@@ -11,12 +11,13 @@ use Rattle.std.specs.shelf.Lists.{sumBy}
 use Rattle.std.proofs.shelf.Lists.{getD-set-same, getD-set-other, getD-past}
 use Rattle.std.proofs.shelf.Counted.{length-map-counting, getD-map-counting}
 use Rattle.std.proofs.shelf.Sums.{sumBy-cons, sumBy-set, getD-le-sumBy}
-use Rattle.std.proofs.shelf.Tests.{cases-eq, cases-lt}
+use Rattle.std.proofs.shelf.Tests.{cases-lt}
 use Rattle.tables.specs.declared.cells.NodeCell.{NodeCell}
 use Rattle.tables.specs.Chains.{occ}
 use Rattle.tables.specs.Cells.{blank, cell, listed, kids}
 use Rattle.tables.specs.Heaps.{inner, Nodes}
 use Rattle.tables.proofs.Occurrences.{occ-nil, occ-head, occ-le-length}
+use Rattle.tables.proofs.Written as written
 
 -- ---- what stands in the slots by rank
 
@@ -101,11 +102,7 @@ same-roots cs f s R S same h = (
 module _ (cs : List NodeCell) (j : ℕ) (y : NodeCell) (h : j < length cs) where
   -- what holds of the new cell, and of each other
   pub at-set : (P : NodeCell → Type 0) (i : ℕ) → (i ≡ j → P y) → ((i ≡ j → ⊥) → P (cell cs i)) → P (cell (set cs j y) i)
-  at-set P i same other =
-      elim (cases-eq i j) [
-        | inl e ↦ subst P (sym (ap (λ (n : ℕ). cell (set cs j y) n) e ∙ getD-set-same cs j y blank h)) (same e)
-        | inr n ↦ subst P (sym (getD-set-other cs j i y blank n)) (other n)
-      ]
+  at-set = written.at-set blank cs j y h
 
   pub new-cell : cell (set cs j y) j ≡ y
   new-cell = getD-set-same cs j y blank h

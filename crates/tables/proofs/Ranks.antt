@@ -2,29 +2,27 @@
 use mathlib.Core.Path.{_≡_, refl, sym, ap, ap₂, subst, _∙_}
 use mathlib.Core.List.{List, [], _∷_, _++_, map}
 use mathlib.Core.Bool.{Bool, cond, true, false}
-use mathlib.Core.Logic.{_⊎_, inl, inr}
 use Prim.Native.Nat.{ℕ, zero, suc, _+_, _-_, _*_, _/_, _%_, _^_, _<_, _≤_}
 use native.Mathlib.Omega.{arith}
 use native.Mathlib.Nat.{pow-suc, mul-assoc}
-use lib.Bits.{bitAnd}
 use lib.Count.{ones}
 use lib.Dec.{eqb, ltb}
 use lib.Lanes.{maskL}
 use lib.ListN.{length, getD, take, drop}
 use Rattle.std.specs.Iters.{counting}
-use Rattle.std.specs.shelf.Lists.{countBy, sumBy}
+use Rattle.std.specs.shelf.Lists.{countBy}
 use Rattle.std.proofs.shelf.Sums.{sumBy-cons}
 use Rattle.std.proofs.shelf.Lists.{getD-map, take-map, take-append-drop, length-take-le, length-map}
-use Rattle.std.proofs.shelf.Counted.{getD-counting, length-map-counting, getD-map-counting}
+use Rattle.std.proofs.shelf.Counted.{getD-counting}
 use Rattle.std.proofs.shelf.Bits.{mod-low, and-mask}
 use Rattle.std.proofs.shelf.Lanes.{maskL-lt, bit-maskL, ones-maskL}
 use Rattle.std.proofs.shelf.Tests.{cond-true, cond-false, lt-ltb, le-ltb, eqb-true, false≢true}
 use Rattle.kinds.specs.Kinds.{KeyKind}
 use Rattle.model.specs.Maps.{Setting, Map}
-use Rattle.model.specs.Tries.{filter, sixteen, at-digit, parts, one, many}
+use Rattle.model.specs.Tries.{filter, sixteen, at-digit, one, many}
 use Rattle.model.specs.Images.{bits, picked}
 use Rattle.tables.specs.declared.cells.NodeCell.{NodeCell}
-use Rattle.tables.specs.Cells.{listed, kids, singles}
+use Rattle.tables.specs.Cells.{kids, singles}
 use Rattle.tables.specs.Notes.{Note, Entry-note, Fits}
 use Rattle.tables.specs.Slots.{bit, rank-of}
 use Rattle.tables.proofs.NodeCounts.{length-listed, listed-at}

@@ -23,7 +23,7 @@ use Rattle.tables.proofs.Occurrences.{occ-nil}
 use Rattle.tables.proofs.Rows.{joined-map, from-joined, to-joined, from-labels, to-labels}
 use Rattle.tables.proofs.NodeCounts.{inside}
 use Rattle.tables.proofs.EntryCounts.{inside-entries}
-use Rattle.tables.proofs.Makes.{kid-held, single-held}
+use Rattle.tables.proofs.Noting.{kid-held, single-held}
 use Rattle.tables.proofs.Tallies.{spare-count}
 
 -- ---- a sum that is not zero has something in it

@@ -1,6 +1,6 @@
 -- The entry table beside the nodes, while a node is held or made. Assumes nothing.
-use mathlib.Core.Path.{_≡_, refl, sym, ap, subst, _∙_}
-use mathlib.Core.List.{List, [], _∷_, _++_}
+use mathlib.Core.Path.{_≡_, refl, sym, ap, subst}
+use mathlib.Core.List.{List, [], _++_}
 use Prim.Native.Nat.{ℕ, _+_, _<_}
 use native.Mathlib.Omega.{arith}
 use lib.ListN.{length, set}
@@ -24,6 +24,7 @@ module _ (cs : List NodeCell) (j : ℕ) (y : NodeCell) (h : j < length cs) where
   entries-moved es f s E F moved H = record {
     counted = λ e. omega (arith, H .counted e, inner-entries-set e, moved e);
     filled = H .filled;
+    emptied = H .emptied;
     short = H .short;
     chain = H .chain;
   }

@@ -1,5 +1,5 @@
 -- The cells of the two tables by number. Assumes nothing.
-use mathlib.Core.List.{List, [], _∷_, map}
+use mathlib.Core.List.{List, [], map}
 use Prim.Native.Nat.{ℕ}
 use lib.Count.{ones}
 use lib.ListN.{getD}

@@ -6,6 +6,7 @@ use Prim.Native.Nat.{ℕ, _+_, _<_, _≤_}
 use lib.Count.{ones}
 use lib.ListN.{length, set}
 use Rattle.std.specs.Options.{isSome}
+use Rattle.std.specs.declared.option.Option.the-variants.{None}
 use Rattle.std.specs.shelf.Lists.{sumBy}
 use Rattle.tables.specs.declared.cells.NodeCell.{NodeCell}
 use Rattle.tables.specs.declared.cells.EntryCell.{EntryCell}
@@ -42,6 +43,8 @@ pub record Entries {K V : Type 0} (cs : List NodeCell) (es : List (EntryCell K V
   pub counted : (e : ℕ) → entry-cell es e .holders ≡ occ e roots + inner-entries e cs
   -- an entry that is held has a key and a value
   pub filled : (e : ℕ) → 0 < entry-cell es e .holders → isSome (entry-cell es e .held) ≡ true
+  -- a free cell has nothing
+  pub emptied : (e : ℕ) → entry-cell es e .holders ≡ 0 → entry-cell es e .held ≡ None
   pub short : length es ≤ 65535
   pub chain : Chain (λ e. entry-cell es e .next) (λ e. entry-cell es e .holders) (length es) head spare
 

@@ -6,7 +6,7 @@ use lib.ListN.{length}
 use Rattle.tables.specs.declared.cells.NodeCell.{NodeCell}
 use Rattle.tables.specs.declared.cells.EntryCell.{EntryCell}
 use Rattle.tables.specs.Chains.{occ}
-use Rattle.tables.specs.Cells.{cell, entry-cell, singles}
+use Rattle.tables.specs.Cells.{cell, entry-cell}
 use Rattle.tables.specs.Heaps.{Entries, Entry-left}
 
 -- the first k cells of a chain

@@ -15,7 +15,7 @@ use Rattle.std.proofs.shelf.Tests.{cond-both, both-ways, false≢true, and-from
 use Rattle.bytes.specs.Rows.{same}
 use Rattle.bytes.proofs.Orders.{same-decides}
 use Rattle.kinds.specs.Kinds.{KeyKind}
-use Rattle.model.specs.Maps.{Setting, Map, keys, look, same-found}
+use Rattle.model.specs.Maps.{Setting, Map, look, same-found}
 use Rattle.model.specs.Tries.{digit, at-digit}
 use Rattle.model.specs.Sharing.{Marked, Part, begins, below, Shared, mark-of, entry-from, shared}
 use Rattle.model.specs.Accounts.{in-row, distinct}

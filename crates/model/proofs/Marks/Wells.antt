@@ -12,8 +12,8 @@ use Rattle.std.specs.declared.option.Option.the-variants.{Some}
 use Rattle.std.specs.Options.{isSome}
 use Rattle.std.specs.shelf.Lists.{All}
 use Rattle.std.proofs.shelf.Tests.{cond-both, false≢true, and-parts, eqb-true, eq-eqb, ltb-true, lt-ltb}
-use Rattle.kinds.specs.Kinds.{KeyKind, ValueKind}
-use Rattle.model.specs.Maps.{Setting, Map, keys, look, same-found, same-map, Rises, Readable, Sound}
+use Rattle.kinds.specs.Kinds.{KeyKind}
+use Rattle.model.specs.Maps.{Setting, Map, keys, look, same-found, same-map, Rises}
 use Rattle.model.specs.Tries.{filter, digit, sixteen, leads, at-digit, parts, one, many, branching, has-node}
 use Rattle.model.specs.Images.{picked}
 use Rattle.model.specs.Sharing.{Marked, Part, begins, below, Shared, _⊕_, sum, new-node, first-same, entry-from, kept-or, share, shared}

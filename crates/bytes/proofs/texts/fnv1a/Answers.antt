@@ -1,5 +1,4 @@
 use mathlib.Core.Path.{ap, _∙_}
-use borrow.Author.Needs.{needs}
 use lib.Seq.{take-all}
 use Rattle.std.proofs.shelf.Sums.{folded-more}
 use Rattle.bytes.specs.Texts.{fnv, fnv-step}

@@ -1,5 +1,5 @@
 use native.Mathlib.Omega.{arith}
-use lib.ListN.{length, length-set}
+use lib.ListN.{length-set}
 use Rattle.std.specs.Of.Vec.{vec-items}
 use Rattle.sovindrate.proofs.Uniting.{same-within, before-within, set-united, insert-united}
 use Rattle.sovindrate.proofs.unite.unite.Needs as need

@@ -1,5 +1,5 @@
 use Rattle.tables.proofs.Frames.{released-means, released-stands, frame-more, stands-more, frame-entry-more}
-use Rattle.tables.proofs.Makes.{node-made-means, entry-made-means, noted-same, noted-other, made-stands}
+use Rattle.tables.proofs.Noting.{node-made-means, entry-made-means, noted-same, noted-other, made-stands}
 use Rattle.tables.proofs.Reach.{nodes-reached, reached-nodes, entries-reached, reached-entries, nodes-free, entries-free}
 use Rattle.tables.proofs.Views.{held-entries, held-entryless, made-entries, made-entryless}
 use Rattle.tables.proofs.Ranks.{child-bit, child-slot, entry-bit, entry-slot, no-children, as-many, by-key}

@@ -1,5 +1,5 @@
 use mathlib.Core.Path.{refl}
-use Prim.Native.Nat.{ℕ, _+_}
+use Prim.Native.Nat.{_+_}
 use native.Mathlib.Omega.{arith}
 use Rattle.tables.proofs.EntryCounts.{Unheld, at-set, formatted}
 use Rattle.tables.proofs.entries.format_entries.Needs as need
@@ -7,7 +7,7 @@ use Rattle.tables.proofs.entries.format_entries.Needs as need
 pub loop-i-again : need.loop-i-again
 loop-i-again g c = λ k p.
     at-set (c .loop-i .cells) (c .loop-i .i) _ (omega arith) (λ d. Unheld d (k + 1)) k
-    (λ e. record { holders = refl; next = omega arith }) (λ n. c .loop-i .inv k (omega arith))
+    (λ e. record { held = refl; holders = refl; next = omega arith }) (λ n. c .loop-i .inv k (omega arith))
 
 pub returns : need.returns
 returns g c = record {

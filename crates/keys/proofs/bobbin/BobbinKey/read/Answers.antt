@@ -1,6 +1,3 @@
-use Prim.Native.Nat.{_<_}
-use mathlib.Core.Path.{_≡_}
-use lib.ListN.{length, getD}
 use borrow.Author.Needs.{needs}
 use Rattle.bytes.proofs.Numbers.{read-byte}
 use Rattle.keys.proofs.bobbin.BobbinKey.read.Needs as need

@@ -1,7 +1,6 @@
 -- What the cells mean, as one is made. Assumes nothing.
 use mathlib.Core.Path.{_≡_, refl, sym, ap, ap₂, subst, _∙_}
-use mathlib.Core.List.{List, [], _∷_, _++_}
-use mathlib.Core.Bool.{cond}
+use mathlib.Core.List.{List, _∷_, _++_}
 use mathlib.Core.Logic.{inl, inr}
 use Prim.Native.Nat.{ℕ, _<_, _≤_}
 use native.Mathlib.Omega.{arith}
@@ -17,7 +16,7 @@ use Rattle.tables.specs.declared.cells.NodeCell.{NodeCell}
 use Rattle.tables.specs.declared.cells.EntryCell.{EntryCell}
 use Rattle.tables.specs.Chains.{occ}
 use Rattle.tables.specs.Cells.{blank, cell, blank-entry, entry-cell, listed, kids, singles}
-use Rattle.tables.specs.Heaps.{inner, Nodes, inner-entries, Entries, Node-made, Entry-made}
+use Rattle.tables.specs.Heaps.{Nodes, inner-entries, Entries, Node-made, Entry-made}
 use Rattle.tables.specs.Notes.{noted, Note, Entry-note, seat, branches, Fits, Entry-fits, Means, Stands}
 use Rattle.tables.proofs.Occurrences.{occ-append}
 use Rattle.tables.proofs.Rows.{to-map, map-same, joined-same}
