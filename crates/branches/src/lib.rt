@@ -1,4 +1,6 @@
 // Branches: parts of maps in the two tables, read digit by digit and built anew.
+#![tactic(auto)]
+
 mod asking;
 mod assembling;
 mod branch;

@@ -4,7 +4,7 @@ use mir.Val.{bool_byte}
 use Rattle.std.specs.List.{AllByRecursion as All}
 use Rattle.std.proofs.ByRecursion.{All-take, All-drop}
 use Rattle.kinds.specs.Kinds.{KeyKind, ValueKind}
-use Rattle.bytes.proofs.Orders.{same_decides}
+use Rattle.byte_rows.proofs.Orders.{same_decides}
 use Rattle.model.specs.Maps.{Setting, Map, look, same_found, same_map}
 use Rattle.model.specs.Sharing.{Part, Shared, entry_from, sum}
 use Rattle.model.proofs.Maps.Found.{found_tells}

@@ -1,4 +1,6 @@
 // Edits of a version: what an edit would take, and the edit itself.
+#![tactic(auto)]
+
 mod estimate;
 mod estimating;
 mod row;

@@ -1,6 +1,6 @@
 -- A worked case of a hash. Assumes nothing.
 use Rattle.std.specs.Prelude.{◌≡◌, ℕ, List, [], ◌∷◌}
-use Rattle.bytes.specs.Texts.{filled}
+use Rattle.byte_rows.specs.Texts.{filled}
 use Rattle.keys.specs.Keys.{path_kind}
 
 -- the path "a"

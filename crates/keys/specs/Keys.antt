@@ -1,11 +1,11 @@
 -- The three kinds of key. Assumes nothing.
 use Rattle.std.specs.Prelude.{◌*◌, ◌%◌, ◌^◌}
 use Rattle.std.proofs.Common.{arith, lit<, lit≤}
-use Rattle.bytes.specs.Rows.{earlier, lower, number, row_of}
-use Rattle.bytes.specs.Texts.{fnv, text_row, unfilled}
-use Rattle.bytes.proofs.Numbers as numbers
-use Rattle.bytes.proofs.Orders.{earlier_not_self, earlier_onward, earlier_or_same}
-use Rattle.bytes.proofs.Fillings as texts
+use Rattle.byte_rows.specs.Rows.{earlier, lower, number, row_of}
+use Rattle.byte_rows.specs.Texts.{fnv, text_row, unfilled}
+use Rattle.byte_rows.proofs.Numbers as numbers
+use Rattle.byte_rows.proofs.Orders.{earlier_not_self, earlier_onward, earlier_or_same}
+use Rattle.byte_rows.proofs.Fillings as texts
 use Rattle.kinds.specs.Kinds.{KeyKind}
 
 -- a printable text of 1 to 24 bytes, filled with 00; hashed without the filling

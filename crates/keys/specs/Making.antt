@@ -1,6 +1,6 @@
 -- What making a path answers. Assumes nothing.
 use Rattle.std.specs.Prelude.{◌≡◌, ℕ, true, false, List, Ok, Err, Result}
-use Rattle.bytes.specs.Texts.{text_of, filled}
+use Rattle.byte_rows.specs.Texts.{text_of, filled}
 use Rattle.kinds.specs.declared.refusal.Refusal.{Refusal}
 use Rattle.kinds.specs.Refusals.{shown, refused}
 

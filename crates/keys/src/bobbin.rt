@@ -1,6 +1,6 @@
 // Bobbins: a number from 0 to 255.
 ghost use Rattle.std.specs.Prelude.{◌≡◌, ℕ, ◌^◌, ◌<◌};
-ghost use Rattle.bytes.specs.Rows.{in_bytes};
+ghost use Rattle.byte_rows.specs.Rows.{in_bytes};
 ghost use Rattle.keys.specs.Keys.{bobbin_kind};
 ghost use Rattle.std.proofs.Common.{rules, arith};
 
@@ -45,7 +45,7 @@ impl Key for Bobbin {
     }
 
     fn write(&self, out: &mut [u8]) {
-        bytes::write_row(&[self.number], out);
+        byte_rows::write_row(&[self.number], out);
     }
 
     fn read(from: &[u8]) -> Option<Self> {

@@ -1,6 +1,6 @@
 // Ids: any number of 32 bits.
 ghost use Rattle.std.specs.Prelude.{◌≡◌, ℕ, ◌^◌, ◌<◌};
-ghost use Rattle.bytes.specs.Rows.{in_bytes};
+ghost use Rattle.byte_rows.specs.Rows.{in_bytes};
 ghost use Rattle.keys.specs.Keys.{id_kind};
 ghost use Rattle.std.proofs.Common.{rules, arith};
 
@@ -45,11 +45,11 @@ impl Key for Id {
     }
 
     fn write(&self, out: &mut [u8]) {
-        bytes::write_row(&self.number.to_be_bytes(), out);
+        byte_rows::write_row(&self.number.to_be_bytes(), out);
     }
 
     fn read(from: &[u8]) -> Option<Self> {
-        match bytes::read_u32(from) {
+        match byte_rows::read_u32(from) {
             Some(number) => Some(Id { number }),
             None => None,
         }

@@ -1,4 +1,6 @@
 // The kinds of keys: paths, ids and bobbins.
+#![tactic(auto)]
+
 mod bobbin;
 mod facts;
 mod id;

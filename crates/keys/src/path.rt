@@ -1,6 +1,6 @@
 // Paths: names of 1 to 24 printable bytes.
 ghost use Rattle.std.specs.Prelude.{◌≡◌, true};
-ghost use Rattle.bytes.specs.Texts.{text_row, unfilled};
+ghost use Rattle.byte_rows.specs.Texts.{text_row, unfilled};
 ghost use Rattle.keys.specs.Keys.{path_kind};
 ghost use Rattle.keys.specs.Making.{Makes};
 ghost use Rattle.std.proofs.Common.{rules, arith};
@@ -20,11 +20,11 @@ impl Path {
     pub fn new(text: &[u8]) -> Result<Path, Refusal>
         ensures { Makes (λ p. p.filled) text.now result }
     {
-        if !bytes::is_text(text, <Path as Key>::WIDTH) {
+        if !byte_rows::is_text(text, <Path as Key>::WIDTH) {
             return Err(Refusal::NotAPath);
         }
         let mut filled = [0; 24];
-        bytes::fill_row(text, &mut filled);
+        byte_rows::fill_row(text, &mut filled);
         Ok(Path { filled })
     }
 
@@ -32,7 +32,7 @@ impl Path {
     pub fn text(&self) -> &[u8]
         ensures { result.now ≡ unfilled self.now.filled }
     {
-        bytes::text(&self.filled)
+        byte_rows::text(&self.filled)
     }
 }
 
@@ -58,19 +58,19 @@ impl Key for Path {
     }
 
     fn hash(&self) -> u32 {
-        bytes::fnv1a(self.text())
+        byte_rows::fnv1a(self.text())
     }
 
     fn order(&self, other: &Self) -> Ordering {
-        bytes::compare_rows(&self.filled, &other.filled)
+        byte_rows::compare_rows(&self.filled, &other.filled)
     }
 
     fn write(&self, out: &mut [u8]) {
-        bytes::write_row(&self.filled, out);
+        byte_rows::write_row(&self.filled, out);
     }
 
     fn read(from: &[u8]) -> Option<Self> {
-        if !bytes::is_text_row(from, Self::WIDTH) {
+        if !byte_rows::is_text_row(from, Self::WIDTH) {
             return None;
         }
         let mut filled = [0; 24];

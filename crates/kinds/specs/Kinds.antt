@@ -1,6 +1,6 @@
 -- What a lawful kind of key and a lawful kind of value are: bytes, and what may be asked of bytes. Assumes nothing.
 use Rattle.std.specs.Prelude.{◌≡◌, ℕ, ◌^◌, ◌<◌, ◌≤◌, Bool, true, false, List, length}
-use Rattle.bytes.specs.Rows.{byte_row}
+use Rattle.byte_rows.specs.Rows.{byte_row}
 
 pub record KeyKind : Type 0 where
   -- the byte that names the kind in an image

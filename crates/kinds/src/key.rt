@@ -1,7 +1,7 @@
 // What every kind of key answers, by its bytes alone.
 ghost use Rattle.std.specs.Prelude.{◌≡◌, ℕ, true, List, Decides};
 ghost use Rattle.std.specs.Ordering.{MatchOrdering};
-ghost use Rattle.bytes.specs.Rows.{Reads, written};
+ghost use Rattle.byte_rows.specs.Rows.{Reads, written};
 ghost use Rattle.kinds.specs.Kinds.{KeyKind};
 
 use std::cmp::Ordering;

@@ -1,4 +1,6 @@
 // What a kind of key and a kind of value answer, and why a call is refused.
+#![tactic(auto)]
+
 mod key;
 mod refusal;
 mod shown;

@@ -1,6 +1,6 @@
 // What every kind of value answers, by its bytes alone.
 ghost use Rattle.std.specs.Prelude.{◌≡◌, ℕ, true, List, Decides};
-ghost use Rattle.bytes.specs.Rows.{Reads, written};
+ghost use Rattle.byte_rows.specs.Rows.{Reads, written};
 ghost use Rattle.kinds.specs.Kinds.{ValueKind};
 
 pub trait Value: Copy {

@@ -2,8 +2,8 @@
 use Rattle.std.proofs.Common.{◌≡◌, ℕ, suc, ◌+◌, ◌≤◌, Bool, true, false, cond, ◌&&◌, ◌||◌, eqb, ◌⊎◌, List, [], ◌∷◌, ◌++◌, length, sym, refl, ap, ◌∙◌, subst, ap₂, inl, inr, arith}
 use mathlib.Core.List.{Memᴰ}
 use Rattle.std.proofs.lemmas.Bool.{and_parts, and_from, eqb-true, eq-eqb, or_cases, or_left, or_right, cond-true, cond-false, both_ways, false≢true}
-use Rattle.bytes.specs.Rows.{same}
-use Rattle.bytes.proofs.Orders.{same_decides}
+use Rattle.byte_rows.specs.Rows.{same}
+use Rattle.byte_rows.proofs.Orders.{same_decides}
 use Rattle.model.specs.Sharing.{Marked}
 use Rattle.model.specs.Accounts.{in_row, distinct}
 use Rattle.model.specs.Runs.{Distinct}

@@ -1,6 +1,6 @@
 -- The plain account of a store: places with their versions, and no cell. Assumes nothing.
 use Rattle.std.specs.Prelude.{ℕ, zero, suc, ◌+◌, ◌-◌, Bool, false, cond, ◌&&◌, ◌||◌, List, [], ◌∷◌, map, replicate, Option, ◌==◌}
-use Rattle.bytes.specs.Rows.{same}
+use Rattle.byte_rows.specs.Rows.{same}
 use Rattle.model.specs.Maps.{Map}
 use Rattle.model.specs.Tries.{concat}
 use Rattle.model.specs.Sharing.{Marked, Part}

@@ -1,8 +1,8 @@
 -- The worked cases, over the kinds at hand. Assumes nothing.
 use Rattle.std.specs.Prelude.{◌≡◌, ℕ, [], ◌∷◌, ◌++◌, map, length, replicate, ℤ, pos, negsuc}
-use Rattle.bytes.specs.Rows.{in_bytes}
-use Rattle.bytes.specs.Joins.{stamped}
-use Rattle.bytes.specs.Texts.{filled}
+use Rattle.byte_rows.specs.Rows.{in_bytes}
+use Rattle.byte_rows.specs.Joins.{stamped}
+use Rattle.byte_rows.specs.Texts.{filled}
 use Rattle.kinds.specs.Refusals as refusals
 use Rattle.keys.specs.Keys.{path_kind, id_kind, bobbin_kind}
 use Rattle.values.specs.Values.{limit_kind, register_kind}

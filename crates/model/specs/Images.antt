@@ -1,6 +1,6 @@
 -- The bytes of a map: header, the nodes of its trie from the root on, end. Assumes nothing.
 use Rattle.std.specs.Prelude.{ℕ, zero, suc, ◌+◌, ◌-◌, ◌*◌, Bool, cond, List, [], ◌∷◌, ◌++◌, map, length}
-use Rattle.bytes.specs.Rows.{in_bytes}
+use Rattle.byte_rows.specs.Rows.{in_bytes}
 use Rattle.kinds.specs.Kinds.{KeyKind, ValueKind}
 use Rattle.model.specs.Maps.{Setting, Map}
 use Rattle.model.specs.Tries.{concat, parts, one, many}

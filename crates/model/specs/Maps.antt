@@ -1,7 +1,7 @@
 -- Finite maps from keys to values, both as bytes. Assumes nothing.
 use Rattle.std.specs.Prelude.{◌≡◌, ℕ, Bool, true, false, cond, ◌&&◌, List, [], ◌∷◌, ◌++◌, map, Some, None, Option}
 use Rattle.std.specs.List.{AllByRecursion as All}
-use Rattle.bytes.specs.Rows.{same}
+use Rattle.byte_rows.specs.Rows.{same}
 use Rattle.kinds.specs.Kinds.{KeyKind, ValueKind}
 
 -- a key with its value

@@ -1,6 +1,6 @@
 -- How an image is judged: the map that it is of, or the first faulty command. Assumes nothing.
 use Rattle.std.specs.Prelude.{◌≡◌, ℕ, zero, suc, ◌+◌, ◌/◌, ◌%◌, ◌^◌, Bool, true, cond, ◌&&◌, ◌||◌, List, [], ◌∷◌, ◌++◌, length, take, drop, ◌==◌, bit_and, nat_eq, nat_le, nat_lt}
-use Rattle.bytes.specs.Rows.{byte_row, number, same}
+use Rattle.byte_rows.specs.Rows.{byte_row, number, same}
 use Rattle.kinds.specs.Kinds.{KeyKind, ValueKind}
 use Rattle.model.specs.Maps.{Setting, Map, insert}
 use Rattle.model.specs.Tries.{filter, sixteen, leads, Lawful}

@@ -1,7 +1,7 @@
 -- Accounts that a new store comes to by a list of calls, and what holds of each, over any kinds. Assumes nothing.
 use Rattle.std.specs.Prelude.{◌≡◌, ℕ, ◌+◌, ◌≤◌, true, List, [], ◌∷◌, map, length, is_some, Some, None, Option}
 use mathlib.Core.List.{Memᴰ}
-use Rattle.bytes.specs.Rows.{byte_row}
+use Rattle.byte_rows.specs.Rows.{byte_row}
 use Rattle.kinds.specs.Kinds.{KeyKind, ValueKind}
 use Rattle.model.specs.Maps.{look}
 use Rattle.model.specs.Tries.{has_node, Lawful}

@@ -1,6 +1,6 @@
 -- Which nodes and entries of a call's result are a source's, and which are new. Assumes nothing.
 use Rattle.std.specs.Prelude.{ℕ, zero, suc, ◌+◌, Bool, true, false, cond, ◌&&◌, List, [], ◌∷◌, ◌++◌, map, length, Some, None, Option, ◌==◌, nat_eq}
-use Rattle.bytes.specs.Rows.{same}
+use Rattle.byte_rows.specs.Rows.{same}
 use Rattle.kinds.specs.Kinds.{KeyKind}
 use Rattle.model.specs.Maps.{Setting, Map, look, same_found, same_map}
 use Rattle.model.specs.Tries.{filter, digit, at_digit, one, parts, branching}

@@ -1,6 +1,8 @@
 // The meaning of the store, as definitions, and what follows from it.
 // Each function here stands for theorems, which its contract names: it does nothing and answers nothing,
 // and the crate is proved only with the theorems' proofs.
+#![tactic(auto)]
+
 ghost use Rattle.model.specs.Cases.{WorkedCases};
 ghost use Rattle.model.specs.Maps.{LookUpsSayAll, PutSetsOneKey, RemoveClearsOneKey, UnionJoinsEachKey, MergeDecidesEachKey, UnionIsAssociative, UnionIsCommutative, UnionIsIdempotent, UnionIsMergeOverNothing, MergeFavoursNoSide};
 ghost use Rattle.model.specs.Reading.{ImagesReadBack, OnlyImagesAreAccepted, EqualImagesAreOfEqualMaps};

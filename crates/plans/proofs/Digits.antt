@@ -1,8 +1,8 @@
 -- What goes on by a digit, of a map and of what an edit makes of maps; a map is what goes on by its digits. Assumes nothing.
 use Rattle.std.proofs.Common.{◌≡◌, ℕ, ◌+◌, ◌<◌, Bool, true, false, cond, eqb, List, [], ◌∷◌, length, Some, None, Option, sym, refl, ap, ◌∙◌, ap₂, arith}
 use Rattle.std.proofs.lemmas.Bool.{and_from, eq-eqb, ne_eqb, cond-true}
-use Rattle.bytes.specs.Rows.{same}
-use Rattle.bytes.proofs.Orders.{same_tells}
+use Rattle.byte_rows.specs.Rows.{same}
+use Rattle.byte_rows.proofs.Orders.{same_tells}
 use Rattle.kinds.specs.Kinds.{KeyKind, ValueKind}
 use Rattle.model.specs.Maps.{Setting, Map, look, put, remove, same_map, decided, merge, Sound}
 use Rattle.model.specs.Tries.{filter, digit, at_digit, sixteen}

@@ -1,6 +1,6 @@
 -- One key is set or cleared: what a look-up finds, and what goes on by each digit. Assumes nothing.
 use Rattle.std.proofs.Common.{◌≡◌, ℕ, true, cond, List, Some, None, Option}
-use Rattle.bytes.specs.Rows.{same}
+use Rattle.byte_rows.specs.Rows.{same}
 use Rattle.kinds.specs.Kinds.{KeyKind, ValueKind}
 use Rattle.model.specs.Maps.{Map, look, Sound}
 use Rattle.model.specs.Tries.{digit, at_digit}

@@ -1,4 +1,6 @@
 // Unites hand-over sheets: reads a file of sheets, joins settings of one key, prints what came of it.
+#![tactic(auto)]
+
 mod fault;
 mod hex;
 mod lines;

@@ -1,4 +1,6 @@
 // The settings store: versions of maps at 64 places, over two lent tables.
+#![tactic(auto)]
+
 mod asking;
 mod calls;
 mod draft;

@@ -1,4 +1,6 @@
 // The two tables of a store over lent slices: cells taken, held and given back.
+#![tactic(auto)]
+
 mod bridges;
 mod cells;
 mod entries;

@@ -1,6 +1,6 @@
 -- A worked case of join. Assumes nothing.
 use Rattle.std.specs.Prelude.{◌≡◌, pos, negsuc}
-use Rattle.bytes.specs.Joins.{stamped}
+use Rattle.byte_rows.specs.Joins.{stamped}
 use Rattle.values.specs.Values.{register_kind}
 
 -- (7, -3) with (7, 2) is (7, 2), and that with (8, -9) is (8, -9)

@@ -1,9 +1,9 @@
 -- The three kinds of value. Assumes nothing.
 use Rattle.std.proofs.Common.{lit<, lit≤}
-use Rattle.bytes.specs.Rows.{row_of}
-use Rattle.bytes.specs.Joins.{larger, either_flags, later}
-use Rattle.bytes.proofs.Joins as joins
-use Rattle.bytes.proofs.Numbers as numbers
+use Rattle.byte_rows.specs.Rows.{row_of}
+use Rattle.byte_rows.specs.Joins.{larger, either_flags, later}
+use Rattle.byte_rows.proofs.Joins as joins
+use Rattle.byte_rows.proofs.Numbers as numbers
 use Rattle.kinds.specs.Kinds.{ValueKind}
 
 -- a number of 32 bits; join is the larger

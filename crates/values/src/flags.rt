@@ -1,7 +1,7 @@
 // Flag sets: 32 flags, of two every flag that either has.
 ghost use Rattle.std.specs.Prelude.{◌≡◌, ℕ, ◌<◌, ◌^◌};
 ghost use Rattle.std.specs.Int.Bits.{bit_or};
-ghost use Rattle.bytes.specs.Rows.{in_bytes};
+ghost use Rattle.byte_rows.specs.Rows.{in_bytes};
 ghost use Rattle.values.specs.Values.{flags_kind};
 ghost use Rattle.std.proofs.Common.{rules, arith};
 
@@ -54,11 +54,11 @@ impl Value for Flags {
     }
 
     fn write(&self, out: &mut [u8]) {
-        bytes::write_row(&self.set.to_be_bytes(), out);
+        byte_rows::write_row(&self.set.to_be_bytes(), out);
     }
 
     fn read(from: &[u8]) -> Option<Self> {
-        match bytes::read_u32(from) {
+        match byte_rows::read_u32(from) {
             Some(set) => Some(Flags { set }),
             None => None,
         }

@@ -1,4 +1,6 @@
 // The kinds of values: limits, flag sets and registers.
+#![tactic(auto)]
+
 mod facts;
 mod flags;
 mod limit;

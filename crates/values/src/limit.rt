@@ -1,6 +1,6 @@
 // Limits: a number of 32 bits, of two the larger.
 ghost use Rattle.std.specs.Prelude.{◌≡◌, ℕ, ◌<◌, ◌^◌};
-ghost use Rattle.bytes.specs.Rows.{in_bytes};
+ghost use Rattle.byte_rows.specs.Rows.{in_bytes};
 ghost use Rattle.values.specs.Values.{limit_kind};
 ghost use Rattle.std.proofs.Common.{rules, arith};
 
@@ -46,11 +46,11 @@ impl Value for Limit {
     }
 
     fn write(&self, out: &mut [u8]) {
-        bytes::write_row(&self.number.to_be_bytes(), out);
+        byte_rows::write_row(&self.number.to_be_bytes(), out);
     }
 
     fn read(from: &[u8]) -> Option<Self> {
-        match bytes::read_u32(from) {
+        match byte_rows::read_u32(from) {
             Some(number) => Some(Limit { number }),
             None => None,
         }

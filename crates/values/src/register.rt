@@ -1,7 +1,7 @@
 // Registers: a stamp and a bar offset, of two the one with the larger stamp, at equal stamps the larger offset.
 ghost use Rattle.std.specs.Prelude.{◌≡◌, ℕ, ◌<◌, ◌^◌};
 ghost use Rattle.std.specs.Int.Signed.{mag};
-ghost use Rattle.bytes.specs.Joins.{stamped};
+ghost use Rattle.byte_rows.specs.Joins.{stamped};
 ghost use Rattle.values.specs.Values.{register_kind};
 ghost use Rattle.std.proofs.Common.{rules, arith};
 
@@ -59,11 +59,11 @@ impl Value for Register {
     fn write(&self, out: &mut [u8]) {
         let [a, b, c, d] = self.stamp.to_be_bytes();
         let [e, f] = self.offset.to_be_bytes();
-        bytes::write_row(&[a, b, c, d, e, f], out);
+        byte_rows::write_row(&[a, b, c, d, e, f], out);
     }
 
     fn read(from: &[u8]) -> Option<Self> {
-        match bytes::read_stamped(from) {
+        match byte_rows::read_stamped(from) {
             Some((stamp, offset)) => Some(Register { stamp, offset }),
             None => None,
         }

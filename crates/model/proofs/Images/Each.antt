@@ -3,7 +3,7 @@ use Rattle.std.proofs.Common.{◌≡◌, ℕ, ◌*◌, ◌≤◌, true, false, e
 use Rattle.std.specs.List.{AllByRecursion as All}
 use Rattle.std.proofs.lemmas.Bool.{eqb-false, ne_eqb}
 use Rattle.std.proofs.lemmas.List.{append-nil, length-append, append_assoc}
-use Rattle.bytes.specs.Rows.{byte_row}
+use Rattle.byte_rows.specs.Rows.{byte_row}
 use Rattle.model.specs.Maps.{Setting}
 use Rattle.model.specs.Reading.{Read, got, each}
 use Rattle.model.proofs.Images.Lists.{flat, all_both, all_to, all_join, filter_append, Apart, flat_like, falls, falls_here, falls_elsewhere}

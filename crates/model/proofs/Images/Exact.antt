@@ -3,10 +3,10 @@ use Rattle.std.proofs.Common.{◌≡◌, ℕ, ◌+◌, ◌^◌, ◌<◌, ◌≤�
 use Rattle.std.specs.List.{AllByRecursion as All}
 use Rattle.std.proofs.lemmas.Bool.{eqb-true, and_parts}
 use Rattle.std.proofs.lemmas.List.{append-nil, nil_from_length}
-use Rattle.bytes.specs.Rows.{same, byte_row, in_bytes, number}
+use Rattle.byte_rows.specs.Rows.{same, byte_row, in_bytes, number}
 use Rattle.kinds.specs.Kinds.{KeyKind, ValueKind}
-use Rattle.bytes.proofs.Numbers.{number_fits, read_bytes}
-use Rattle.bytes.proofs.Orders.{same_decides}
+use Rattle.byte_rows.proofs.Numbers.{number_fits, read_bytes}
+use Rattle.byte_rows.proofs.Orders.{same_decides}
 use Rattle.model.specs.Maps.{Setting, Map, Readable}
 use Rattle.model.specs.Images.{node, root, image}
 use Rattle.model.specs.Reading.{Read, got, fault, read_node, accepted, gather, read_root, end_in, read_end, ended, body_in, read_whole, verdict, judge}

@@ -5,9 +5,9 @@ use lib.Bits.{bit_and}
 use Rattle.std.specs.List.{AllByRecursion as All}
 use Rattle.std.proofs.lemmas.Bool.{eqb-true, eq-eqb, ne_eqb, ltb-true, and_parts, both_ways, lt-ltb, le-ltb, leb-true, or_cases}
 use Rattle.std.proofs.lemmas.List.{append-nil, length-append, append_assoc, length-take-le, take-append-drop, length-drop}
-use Rattle.bytes.specs.Rows.{byte_row, in_bytes, number}
+use Rattle.byte_rows.specs.Rows.{byte_row, in_bytes, number}
 use Rattle.kinds.specs.Kinds.{KeyKind, ValueKind}
-use Rattle.bytes.proofs.Numbers.{number_fits, read_bytes}
+use Rattle.byte_rows.proofs.Numbers.{number_fits, read_bytes}
 use Rattle.model.specs.Maps.{Setting, Map, Readable}
 use Rattle.model.specs.Tries.{digit, sixteen, leads, at_digit, one, many, branching, Uncrowded}
 use Rattle.model.specs.Images.{entry, node}

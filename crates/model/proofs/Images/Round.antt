@@ -5,10 +5,10 @@ use lib.Bits.{bit_and}
 use Rattle.std.specs.List.{AllByRecursion as All}
 use Rattle.std.proofs.lemmas.Bool.{eqb-true, eq-eqb, ltb-true, lt-ltb, le-ltb, and_from, le-leb, or_left, or_right}
 use Rattle.std.proofs.lemmas.List.{append-nil, length-append, append_assoc, nil_from_length}
-use Rattle.bytes.specs.Rows.{in_bytes, number}
+use Rattle.byte_rows.specs.Rows.{in_bytes, number}
 use Rattle.kinds.specs.Kinds.{KeyKind, ValueKind}
-use Rattle.bytes.proofs.Numbers.{in_bytes_number}
-use Rattle.bytes.proofs.Orders.{same_decides}
+use Rattle.byte_rows.proofs.Numbers.{in_bytes_number}
+use Rattle.byte_rows.proofs.Orders.{same_decides}
 use Rattle.model.specs.Maps.{Map, Readable}
 use Rattle.model.specs.Tries.{sixteen, leads, at_digit, one, many, branching, Lawful}
 use Rattle.model.specs.Images.{entry, node, root, image}

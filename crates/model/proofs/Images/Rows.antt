@@ -3,9 +3,9 @@ use Rattle.std.proofs.Common.{◌≡◌, ℕ, zero, suc, ◌+◌, ◌-◌, true,
 use Rattle.std.specs.List.{AllByRecursion as All}
 use Rattle.std.proofs.lemmas.Bool.{and_parts, lt-ltb, and_from}
 use Rattle.std.proofs.lemmas.List.{length-append}
-use Rattle.bytes.specs.Rows.{byte_row, in_bytes}
+use Rattle.byte_rows.specs.Rows.{byte_row, in_bytes}
 use Rattle.kinds.specs.Kinds.{KeyKind, ValueKind}
-use Rattle.bytes.proofs.Numbers.{in_bytes_row}
+use Rattle.byte_rows.proofs.Numbers.{in_bytes_row}
 use Rattle.model.specs.Maps.{Map, Readable}
 use Rattle.model.specs.Tries.{sixteen, at_digit, one, many, branching, Lawful}
 use Rattle.model.specs.Images.{entry, node, root, image}

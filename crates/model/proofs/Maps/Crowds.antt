@@ -2,8 +2,8 @@
 use Rattle.std.proofs.Common.{◌≡◌, ℕ, ◌≤◌, Bool, true, false, cond, not, eqb, ltb, ◌⊎◌, List, [], ◌∷◌, length, None, sym, refl, ◌∙◌, inl, inr, arith}
 use Rattle.std.specs.List.{AllByRecursion as All}
 use Rattle.std.proofs.lemmas.Bool.{or_parts, eqb-true, ltb-false}
-use Rattle.bytes.specs.Rows.{same}
-use Rattle.bytes.proofs.Orders.{same_tells}
+use Rattle.byte_rows.specs.Rows.{same}
+use Rattle.byte_rows.proofs.Orders.{same_tells}
 use Rattle.kinds.specs.Kinds.{KeyKind, ValueKind}
 use Rattle.model.specs.Maps.{Setting, Map, look, remove, Rises, Readable, Sound}
 use Rattle.model.specs.Tries.{filter, of_hash, crowded_at, crowded, Uncrowded}

@@ -1,8 +1,8 @@
 -- Rows that are the same, and look-ups that find the same. Assumes nothing.
 use Rattle.std.proofs.Common.{◌≡◌, ℕ, Bool, true, false, ◌⊎◌, List, Some, None, Option, refl, ap, inl, inr}
 use Rattle.std.proofs.lemmas.Bool.{both_ways}
-use Rattle.bytes.specs.Rows.{same}
-use Rattle.bytes.proofs.Orders.{same_decides}
+use Rattle.byte_rows.specs.Rows.{same}
+use Rattle.byte_rows.proofs.Orders.{same_decides}
 use Rattle.model.specs.Maps.{same_found}
 
 pub same_self : (k : List ℕ) → same k k ≡ true

@@ -1,6 +1,6 @@
 -- Union is a join, and merge is symmetric. Assumes nothing.
 use Rattle.std.proofs.Common.{◌≡◌, ℕ, List, [], Some, None, Option, sym, refl, ap, ◌∙◌, arith}
-use Rattle.bytes.proofs.Orders.{same_tells}
+use Rattle.byte_rows.proofs.Orders.{same_tells}
 use Rattle.kinds.specs.Kinds.{KeyKind, ValueKind}
 use Rattle.model.specs.Maps.{Map, look, joined, union, decided, merge, Sound}
 use Rattle.model.proofs.Maps.Found.{found_tells}

@@ -3,8 +3,8 @@ use Rattle.std.proofs.Common.{◌≡◌, ℕ, Bool, true, false, cond, ◌⊎◌
 use Rattle.std.specs.List.{AllByRecursion as All}
 use Rattle.std.proofs.lemmas.Bool.{cases_Bool}
 use Rattle.std.proofs.ByRecursion.{All-weaker}
-use Rattle.bytes.specs.Rows.{same}
-use Rattle.bytes.proofs.Orders.{same_tells}
+use Rattle.byte_rows.specs.Rows.{same}
+use Rattle.byte_rows.proofs.Orders.{same_tells}
 use Rattle.kinds.specs.Kinds.{KeyKind, ValueKind}
 use Rattle.model.specs.Maps.{Setting, Map, look, insert, Rises, Readable, Sound}
 use Rattle.model.proofs.Maps.Found.{same_self}

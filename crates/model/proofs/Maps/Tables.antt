@@ -1,8 +1,8 @@
 -- The table of what a function finds at given keys. Assumes nothing.
 use Rattle.std.proofs.Common.{◌≡◌, ℕ, Bool, true, false, cond, ◌||◌, List, [], ◌∷◌, ◌++◌, Some, None, Option, refl, arith}
 use Rattle.std.specs.List.{AllByRecursion as All}
-use Rattle.bytes.specs.Rows.{same}
-use Rattle.bytes.proofs.Orders.{same_tells}
+use Rattle.byte_rows.specs.Rows.{same}
+use Rattle.byte_rows.proofs.Orders.{same_tells}
 use Rattle.kinds.specs.Kinds.{KeyKind, ValueKind}
 use Rattle.model.specs.Maps.{Map, keys, look, insert_found, tabulate, Rises, Readable, Sound}
 use Rattle.model.proofs.Maps.Order.{Reads, readable_insert, rising_insert, look_insert}

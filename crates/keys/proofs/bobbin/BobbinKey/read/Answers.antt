@@ -1,5 +1,5 @@
 use Rattle.std.proofs.Common.{rules}
-use Rattle.bytes.proofs.Numbers.{read_byte}
+use Rattle.byte_rows.proofs.Numbers.{read_byte}
 use Rattle.keys.proofs.bobbin.BobbinKey.read.Goals as goal
 
 pub returns-in-len1 : goal.returns-in-len1

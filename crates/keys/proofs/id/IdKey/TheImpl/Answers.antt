@@ -1,7 +1,7 @@
 use Rattle.std.proofs.Common.{ℕ, ◌^◌, ◌<◌}
-use Rattle.bytes.proofs.Numbers.{in_bytes_one}
+use Rattle.byte_rows.proofs.Numbers.{in_bytes_one}
 use Rattle.keys.specs.declared.id.Id.{Id}
-use Rattle.bytes.proofs.Ones.{one_made}
+use Rattle.byte_rows.proofs.Ones.{one_made}
 use Rattle.keys.proofs.id.IdKey.TheImpl.Goals as goal
 
 abbrev make : (n : ℕ) → n < 2 ^ 32 → Id

@@ -1,6 +1,6 @@
 use Rattle.std.proofs.Common.{◌≡◌, ℕ, true, List, ap, subst}
 use mathlib.Core.Bool.{Bool-set}
-use Rattle.bytes.specs.Texts.{text_row}
+use Rattle.byte_rows.specs.Texts.{text_row}
 use Rattle.keys.specs.declared.path.Path.{Path}
 use Rattle.keys.proofs.path.PathKey.TheImpl.Goals as goal
 

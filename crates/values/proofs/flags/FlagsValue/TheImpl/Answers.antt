@@ -1,7 +1,7 @@
 use Prim.Native.Nat.{ℕ, ◌<◌, ◌^◌}
-use Rattle.bytes.proofs.Numbers.{in_bytes_one}
+use Rattle.byte_rows.proofs.Numbers.{in_bytes_one}
 use Rattle.values.specs.declared.flags.Flags.{Flags}
-use Rattle.bytes.proofs.Ones.{one_made}
+use Rattle.byte_rows.proofs.Ones.{one_made}
 use Rattle.values.proofs.flags.FlagsValue.TheImpl.Goals as goal
 
 abbrev make : (n : ℕ) → n < 2 ^ 32 → Flags

@@ -3,8 +3,8 @@ use Prim.Native.Nat.{ℕ, ◌<◌, ◌^◌}
 use lib.IntN.{ℤ}
 use lib.Signed.{mag}
 use Rattle.values.specs.declared.register.Register.{Register}
-use Rattle.bytes.proofs.Ones.{one_made}
-use Rattle.bytes.proofs.Stamps.{stamps_one, offsets_one}
+use Rattle.byte_rows.proofs.Ones.{one_made}
+use Rattle.byte_rows.proofs.Stamps.{stamps_one, offsets_one}
 use Rattle.values.proofs.register.RegisterValue.TheImpl.Goals as goal
 
 abbrev make : (o : ℤ) → mag o < 2 ^ 15 → (s : ℕ) → s < 2 ^ 32 → Register

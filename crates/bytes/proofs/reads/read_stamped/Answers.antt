@@ -1,8 +1,0 @@
-use Rattle.std.proofs.Common.{rules}
-use Rattle.bytes.proofs.Stamps.{reads_stamped}
-use Rattle.bytes.proofs.reads.read_stamped.Goals as goal
-
-pub returns : goal.returns
-returns c =
-    reads_stamped c.args.row.now c.from-be-bytes-stamp.result c.from-be-bytes-offset.result (search rules) c.type-inv.row
-    c.from-be-bytes-offset.type-inv c.from-be-bytes-stamp.ensures c.from-be-bytes-offset.ensures

@@ -1,8 +1,0 @@
-use Rattle.std.proofs.Common.{◌≡◌, length, sym, ◌∙◌, rules}
-use Rattle.bytes.proofs.Numbers.{read_row, number_4}
-use Rattle.bytes.proofs.reads.read_u32.Goals as goal
-
-pub returns-in-len4 : goal.returns-in-len4
-returns-in-len4 c =
-    let four : length c.args.row.now ≡ 4 = search rules in
-    read_row 4 c.args.row.now c.from-be-bytes.result four c.type-inv.row (c.from-be-bytes.ensures ∙ sym (number_4 c.args.row.now four))

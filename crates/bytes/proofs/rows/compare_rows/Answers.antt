@@ -1,5 +1,0 @@
-use Rattle.bytes.proofs.Orders.{ranked}
-use Rattle.bytes.proofs.rows.compare_rows.Goals as goal
-
-pub returns : goal.returns
-returns c = ranked c.args.a.now c.args.b.now c.cmp.result c.cmp.ensures
