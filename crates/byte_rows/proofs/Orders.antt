@@ -1,7 +1,8 @@
 -- Rows that are the same, and rows in order. Assumes nothing.
 use Rattle.std.proofs.Common.{◌≡◌, ℕ, ◌<◌, Bool, true, false, ◌⊎◌, List, [], ◌∷◌, Decides, Ordering, Less, Equal, Greater, sym, refl, inl, inr, arith, rules}
-use Rattle.std.specs.Cmp.Lexicographic.{Lex}
-use Rattle.std.specs.Ordering.{MatchOrdering}
+use Rattle.std.specs.Cmp.Lexicographic.{slice_cmp}
+use Rattle.std.specs.Cmp.{ranked as nat_ranked}
+use Rattle.std.specs.Ordering.{MatchOrdering, nat_cmp, ordering_then}
 use Rattle.std.proofs.lemmas.Slice.Eq.{compares_Decides}
 use Rattle.std.proofs.lemmas.Bool.{false≢true, both_ways}
 use Rattle.std.proofs.lemmas.Bool.Decides.{nat_tests}
@@ -36,19 +37,18 @@ earlier_or_same [] (y ∷ b) h k = absurd (false≢true (sym h))
 earlier_or_same (x ∷ a) [] h k = absurd (false≢true (sym k))
 earlier_or_same (x ∷ a) (y ∷ b) h k = let rest = earlier_or_same a b in grind (arith, nat_tests)
 
--- one byte more in front of two rows, of which rest is told where the bytes are equal
-ranked_more : (x y : ℕ) (a b : List ℕ) (rest : Type 0) (k r : Ordering) → (rest → MatchOrdering r (earlier a b ≡ true) (a ≡ b) (earlier b a ≡ true)) →
-    MatchOrdering k (x < y) (x ≡ y) (y < x) → MatchOrdering k (r ≡ Less) rest (r ≡ Greater) →
-    MatchOrdering r (earlier (x ∷ a) (y ∷ b) ≡ true) (x ∷ a ≡ y ∷ b) (earlier (y ∷ b) (x ∷ a) ≡ true)
-ranked_more x y a b rest Less r f h e = rw e (grind (arith, nat_tests))
-ranked_more x y a b rest Equal Less f h e = let t = f e in grind (arith, nat_tests)
-ranked_more x y a b rest Equal Equal f h e = let t = f e in cc
-ranked_more x y a b rest Equal Greater f h e = let t = f e in grind (arith, nat_tests)
-ranked_more x y a b rest Greater r f h e = rw e (grind (arith, nat_tests))
+-- one byte more in front of two rows
+ranked_more : (x y : ℕ) (a b : List ℕ) (k r : Ordering) → MatchOrdering r (earlier a b ≡ true) (a ≡ b) (earlier b a ≡ true) → MatchOrdering k (x < y) (x ≡ y) (y < x) →
+    MatchOrdering (ordering_then k r) (earlier (x ∷ a) (y ∷ b) ≡ true) (x ∷ a ≡ y ∷ b) (earlier (y ∷ b) (x ∷ a) ≡ true)
+ranked_more x y a b Less r f h = grind (arith, nat_tests)
+ranked_more x y a b Equal Less f h = grind (arith, nat_tests)
+ranked_more x y a b Equal Equal f h = cc
+ranked_more x y a b Equal Greater f h = grind (arith, nat_tests)
+ranked_more x y a b Greater r f h = grind (arith, nat_tests)
 
 -- what a comparison of two slices answers
-pub ranked : (a b : List ℕ) (r : Ordering) → Lex (λ x y o. MatchOrdering o (x < y) (x ≡ y) (y < x)) a b r → MatchOrdering r (earlier a b ≡ true) (a ≡ b) (earlier b a ≡ true)
+pub ranked : (a b : List ℕ) (r : Ordering) → r ≡ slice_cmp nat_cmp a b → MatchOrdering r (earlier a b ≡ true) (a ≡ b) (earlier b a ≡ true)
 ranked [] [] r h = rw h refl
 ranked [] (y ∷ b) r h = rw h refl
 ranked (x ∷ a) [] r h = rw h refl
-ranked (x ∷ a) (y ∷ b) r h = ranked_more x y a b _ h.0 r (ranked a b r) h.1 h.2
+ranked (x ∷ a) (y ∷ b) r h = rw h (ranked_more x y a b (nat_cmp x y) (slice_cmp nat_cmp a b) (ranked a b _ refl) (nat_ranked x y _ refl))
