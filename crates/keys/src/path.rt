@@ -3,7 +3,8 @@ ghost use Rattle.std.specs.Prelude.{◌≡◌, true};
 ghost use Rattle.byte_rows.specs.Texts.{text_row, unfilled};
 ghost use Rattle.keys.specs.Keys.{path_kind};
 ghost use Rattle.keys.specs.Making.{Makes};
-ghost use Rattle.std.proofs.Common.{rules, arith};
+ghost use Rattle.byte_rows.proofs.Ones.{row_made};
+ghost use Rattle.std.proofs.Common.{rules};
 
 use kinds::{Key, Refusal};
 use std::cmp::Ordering;
@@ -45,9 +46,9 @@ impl Key for Path {
 
     ghost bytes = { λ k. k.filled };
 
-    ghost readable = { first_of (Prim.search rules, Prim.grind (arith, Self.row.coded.inj)) };
+    ghost readable = { Prim.search rules };
 
-    ghost one = { first_of (Prim.search rules, Prim.grind (arith, Self.row.coded.inj)) };
+    ghost one = { λ a b e. row_made (text_row 24) (λ row h. record { filled = row; text_and_filling = h }) a.filled b.filled a.text_and_filling b.text_and_filling e };
 
     fn code_byte() -> u8 {
         Self::CODE

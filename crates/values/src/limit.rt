@@ -2,7 +2,9 @@
 ghost use Rattle.std.specs.Prelude.{◌≡◌, ℕ, ◌<◌, ◌^◌};
 ghost use Rattle.byte_rows.specs.Rows.{in_bytes};
 ghost use Rattle.values.specs.Values.{limit_kind};
-ghost use Rattle.std.proofs.Common.{rules, arith};
+ghost use Rattle.byte_rows.proofs.Numbers.{in_bytes_one};
+ghost use Rattle.byte_rows.proofs.Ones.{one_made};
+ghost use Rattle.std.proofs.Common.{rules};
 
 use kinds::Value;
 
@@ -21,9 +23,9 @@ impl Value for Limit {
 
     ghost bytes = { λ v. in_bytes 4 v.number };
 
-    ghost readable = { first_of (Prim.search rules, Prim.grind (arith, Self.row.coded.inj)) };
+    ghost readable = { Prim.search rules };
 
-    ghost one = { first_of (Prim.search rules, Prim.grind (arith, Self.row.coded.inj)) };
+    ghost one = { λ a b e. one_made (λ n. n) (λ n h. record { number = n; fits = h }) a.number b.number a.fits b.fits (in_bytes_one 4 a.number b.number a.fits b.fits e) };
 
     fn code_byte() -> u8 {
         Self::CODE

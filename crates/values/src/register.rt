@@ -3,7 +3,10 @@ ghost use Rattle.std.specs.Prelude.{◌≡◌, ℕ, ◌<◌, ◌^◌};
 ghost use Rattle.std.specs.Int.Signed.{mag};
 ghost use Rattle.byte_rows.specs.Joins.{stamped};
 ghost use Rattle.values.specs.Values.{register_kind};
-ghost use Rattle.std.proofs.Common.{rules, arith};
+ghost use Rattle.std.proofs.Common.{◌∙◌};
+ghost use Rattle.byte_rows.proofs.Ones.{one_made};
+ghost use Rattle.byte_rows.proofs.Stamps.{stamps_one, offsets_one};
+ghost use Rattle.std.proofs.Common.{rules};
 
 use kinds::Value;
 
@@ -24,9 +27,9 @@ impl Value for Register {
 
     ghost bytes = { λ v. stamped v.stamp v.offset };
 
-    ghost readable = { first_of (Prim.search rules, Prim.grind (arith, Self.row.coded.inj)) };
+    ghost readable = { Prim.search rules };
 
-    ghost one = { first_of (Prim.search rules, Prim.grind (arith, Self.row.coded.inj)) };
+    ghost one = { λ a b e. one_made (λ n. n) (λ s p. record { stamp = s; offset = a.offset; stamp_fits = p; offset_fits = a.offset_fits }) a.stamp b.stamp a.stamp_fits b.stamp_fits (stamps_one a.stamp b.stamp a.offset b.offset a.stamp_fits b.stamp_fits e) ∙ one_made mag (λ o q. record { stamp = b.stamp; offset = o; stamp_fits = b.stamp_fits; offset_fits = q }) a.offset b.offset a.offset_fits b.offset_fits (offsets_one a.stamp b.stamp a.offset b.offset a.offset_fits b.offset_fits e) };
 
     fn code_byte() -> u8 {
         Self::CODE
