@@ -100,7 +100,7 @@ module _ {X Y : Type 0} (K : KeyKind) (kb : X → List ℕ) (vb : Y → List ℕ
     portion_kept T N R E (Entry i) a H is =
         let S = is.1 in
         let F = H.means.entry_fits i.0 S.held in
-        one_entry a (N.entry i.0).setting (N.entry i.0).label is.0 S.settings S.nodes S.entries (F.Label-is ∙ ap (λ (s : Setting). s.key) (sym F.setting_is))
+        one_entry a (N.entry i.0).setting (N.entry i.0).label is.0 S.settings S.nodes S.entries (F.label_is ∙ ap (λ (s : Setting). s.key) (sym F.setting_is))
     portion_kept T N R E (Child i) a H is =
         let f : first_same (a ∷ rest) a.settings ≡ Some a = cond-true (same_map a.settings a.settings) (Some a) (first_same rest a.settings) (same_map_self a.settings) in
         shares_of a (kept_or (Some a) no_share) (portion_bushy K n level p (a ∷ rest) a.settings is.1 ∙ share_first K n p (a ∷ rest) a.settings level a f) refl refl refl

@@ -26,7 +26,7 @@ row_flat f (x ∷ xs) a = row_append (f x) (flat f xs) a.0 (row_flat f xs a.1)
 
 module _ (K : KeyKind) (V : ValueKind) where
   row_entries : (m : Map) → All (Readable K V) m → byte_row (flat entry m) ≡ true
-  row_entries m a = row_flat entry m (all_to (Readable K V) _ (λ s r. row_append s.key s.value (K.Reads-bytes s.key r.0) (V.Reads-bytes s.value r.1)) m a)
+  row_entries m a = row_flat entry m (all_to (Readable K V) _ (λ s r. row_append s.key s.value (K.reads_bytes s.key r.0) (V.reads_bytes s.value r.1)) m a)
 
   row_node : (h : ℕ) (p : List ℕ) (m : Map) → length p + h ≡ 8 → Good K V p m → byte_row (node K h m) ≡ true
   row_node zero p m e good = and_from _ _ (lt-ltb (length m) 256 (omega (arith, crowd_fits K V p m (omega arith) good))) (row_entries m good.reads)
@@ -50,6 +50,6 @@ module _ (K : KeyKind) (V : ValueKind) where
 
   pub row_image : (m : Map) → Lawful K V m → byte_row (image K V m) ≡ true
   row_image m law =
-      and_from (ltb K.code 256) _ (lt-ltb K.code 256 K.Code-fits)
-      (and_from (ltb V.code 256) _ (lt-ltb V.code 256 V.Code-fits)
+      and_from (ltb K.code 256) _ (lt-ltb K.code 256 K.code_fits)
+      (and_from (ltb V.code 256) _ (lt-ltb V.code 256 V.code_fits)
       (row_append (root K m) (0x5A ∷ in_bytes 4 (length m)) (row_root m law) (in_bytes_row 4 (length m))))

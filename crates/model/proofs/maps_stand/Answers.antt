@@ -6,9 +6,9 @@ use Rattle.model.proofs.maps_stand.Goals as goal
 pub returns : goal.returns
 returns g c =
     let K = g.K.Key.kind in
-    let V = g.row.V-Value.kind in
+    let V = g.V.Value.kind in
     record {
-      look-ups = sound_equal K V;
+      look_ups = sound_equal K V;
       puts = λ m k v s p q. (sound_put K V m k s p v q, look_put K V m k s p v q);
       removes = λ m k s p. (sound_remove K V m k s p, look_remove K V m k s p);
       unions = λ a b p q. (sound_union K V a b p q, look_union K V a b p q);
@@ -16,6 +16,6 @@ returns g c =
       union_assoc = joins.union_assoc K V;
       union_comm = joins.union_comm K V;
       union_self = joins.union_self K V;
-      union-merge = joins.union_is_merge K V;
+      union_merge = joins.union_is_merge K V;
       merge_swap = joins.merge_swap K V;
     }

@@ -4,7 +4,7 @@ use Rattle.model.proofs.runs_stand.Goals as goal
 pub returns : goal.returns
 returns g c =
     let K = g.K.Key.kind in
-    let V = g.row.V-Value.kind in
+    let V = g.V.Value.kind in
     record {
       lawful = promises.lawful K V;
       trie = promises.trie K V;

@@ -8,5 +8,5 @@ decreases-estimate-set g l = l.level
 
 abbrev pub invariant-loop-g : goal.invariant-loop-g
 invariant-loop-g g l =
-    Summed g.K.Key.kind g.row.V-Value.kind g.K.Key.bytes g.row.V-Value.bytes (tables_of l.nodes l.entries) l.at (g.K.Key.bytes l.key) (value_bytes g.row.V-Value.bytes l.value) l.level
+    Summed g.K.Key.kind g.V.Value.kind g.K.Key.bytes g.V.Value.bytes (tables_of l.nodes l.entries) l.at (g.K.Key.bytes l.key) (value_bytes g.V.Value.bytes l.value) l.level
     l.g l.sum

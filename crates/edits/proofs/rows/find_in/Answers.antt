@@ -19,24 +19,24 @@ setting-of-other-requires g c = record {
 pub returns-in-Equal : goal.returns-in-Equal
 returns-in-Equal g c = record {
   placed =
-      placed_here g.K.Key.bytes g.row.V-Value.bytes c.args.entries.now.cells.now c.args.row.now c.requires.slots c.requires.few _ _ _ c.loop-j-test.true c.loop-j.invariant
+      placed_here g.K.Key.bytes g.V.Value.bytes c.args.entries.now.cells.now c.args.row.now c.requires.slots c.requires.few _ _ _ c.loop-j-test.true c.loop-j.invariant
       _ _ c.setting-of-other.ensures c.in-Equal.ensures;
 }
 
 pub returns-in-Greater : goal.returns-in-Greater
 returns-in-Greater g c = record {
   placed =
-      placed_before g.K.Key.bytes g.row.V-Value.bytes c.args.entries.now.cells.now c.args.row.now c.requires.slots c.requires.few _ _ _ c.loop-j-test.true c.loop-j.invariant
+      placed_before g.K.Key.bytes g.V.Value.bytes c.args.entries.now.cells.now c.args.row.now c.requires.slots c.requires.few _ _ _ c.loop-j-test.true c.loop-j.invariant
       _ _ c.setting-of-other.ensures c.in-Greater.ensures;
 }
 
 pub loop-j-preserved : goal.loop-j-preserved
 loop-j-preserved g c =
-    passed_more g.K.Key.bytes g.row.V-Value.bytes c.args.entries.now.cells.now c.args.row.now c.requires.slots c.requires.few _ _ _ c.loop-j-test.true c.loop-j.invariant
+    passed_more g.K.Key.bytes g.V.Value.bytes c.args.entries.now.cells.now c.args.row.now c.requires.slots c.requires.few _ _ _ c.loop-j-test.true c.loop-j.invariant
     _ _ c.setting-of-other.ensures c.in-Less.ensures
 
 pub returns : goal.returns
 returns g c = record {
   placed = λ up.
-      placed_last g.K.Key.bytes g.row.V-Value.bytes c.args.entries.now.cells.now c.args.row.now c.requires.slots c.requires.few _ _ _ c.loop-j-test.false (omega arith) c.loop-j.invariant;
+      placed_last g.K.Key.bytes g.V.Value.bytes c.args.entries.now.cells.now c.args.row.now c.requires.slots c.requires.few _ _ _ c.loop-j-test.false (omega arith) c.loop-j.invariant;
 }

@@ -20,14 +20,14 @@ setting-of-old-requires g c =
 
 pub returns-then-not-found : goal.returns-then-not-found
 returns-then-not-found g c =
-    same_missing g.K.Key.kind g.K.Key.bytes g.row.V-Value.bytes c.args.entries.now.cells.now c.args.row.now c.args.place c.args.found c.args.value
+    same_missing g.K.Key.kind g.K.Key.bytes g.V.Value.bytes c.args.entries.now.cells.now c.args.row.now c.args.place c.args.found c.args.value
     c.if-not-found.true c.in-Some.new c.in-Some.is
 
 pub returns-else-not-found : goal.returns-else-not-found
 returns-else-not-found g c =
-    same_there g.K.Key.kind g.K.Key.bytes g.row.V-Value.bytes c.args.entries.now.cells.now c.args.row.now c.args.place c.args.found c.args.value
+    same_there g.K.Key.kind g.K.Key.bytes g.V.Value.bytes c.args.entries.now.cells.now c.args.row.now c.args.place c.args.found c.args.value
     c.if-not-found.false c.in-Some.new c.in-Some.is _ _ c.setting-of-old.ensures _ c.same.ensures
 
 pub returns-in-None : goal.returns-in-None
 returns-in-None g c =
-    same_none g.K.Key.kind g.K.Key.bytes g.row.V-Value.bytes c.args.entries.now.cells.now c.args.row.now c.args.place c.args.found c.args.value c.in-None.is
+    same_none g.K.Key.kind g.K.Key.bytes g.V.Value.bytes c.args.entries.now.cells.now c.args.row.now c.args.place c.args.found c.args.value c.in-None.is

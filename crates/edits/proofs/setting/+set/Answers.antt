@@ -10,7 +10,7 @@ use Rattle.edits.proofs.setting.+set.Goals.{then-g-digit, else-g-digit, in-Some,
 pub make-entry-requires : goal.make-entry-requires
 make-entry-requires g t c =
     record {
-      some = entry_room _ _ _ _ _ _ _ _ c.if-level-lt8.true _ c.is-alone.ensures c.if-is-alone.true _ _ (ap (value_bytes g.row.V-Value.bytes) c.in-Some.is) c.requires;
+      some = entry_room _ _ _ _ _ _ _ _ c.if-level-lt8.true _ c.is-alone.ensures c.if-is-alone.true _ _ (ap (value_bytes g.V.Value.bytes) c.in-Some.is) c.requires;
       heap = (c.args.nodes.now.cells.now, (c.requires.in_hand, c.requires.sits.entries));
     }
 
@@ -18,10 +18,10 @@ pub returns-then-is-alone : goal.returns-then-is-alone
 returns-then-is-alone g t c =
     elim c.match-value.branch [
       | in-Some w ↦
-          done_some _ _ _ _ _ _ _ _ c.if-level-lt8.true _ c.is-alone.ensures c.if-is-alone.true _ _ (ap (value_bytes g.row.V-Value.bytes) w.in-Some.is)
+          done_some _ _ _ _ _ _ _ _ c.if-level-lt8.true _ c.is-alone.ensures c.if-is-alone.true _ _ (ap (value_bytes g.V.Value.bytes) w.in-Some.is)
           _ _ refl refl _ _ w.result-is _ _ (ap (tables_of c.args.nodes.now) w.entries-is) (refl, refl, refl) w.make-entry.ensures
       | in-None w ↦
-          done_none _ _ _ _ _ _ _ _ c.if-level-lt8.true _ c.is-alone.ensures c.if-is-alone.true _ (ap (value_bytes g.row.V-Value.bytes) w.in-None.is) _ w.result-is _ (ap (tables_of c.args.nodes.now) w.entries-is)
+          done_none _ _ _ _ _ _ _ _ c.if-level-lt8.true _ c.is-alone.ensures c.if-is-alone.true _ (ap (value_bytes g.V.Value.bytes) w.in-None.is) _ w.result-is _ (ap (tables_of c.args.nodes.now) w.entries-is)
     ]
 
 pub loop-g-init : goal.loop-g-init

@@ -3,4 +3,4 @@ use Rattle.store.specs.Views.{state}
 use Rattle.store.proofs.running.make_calls.Given as goal
 
 abbrev pub invariant-loop-i : goal.invariant-loop-i
-invariant-loop-i g l = MadeCalls g.K.Key.kind g.row.V-Value.kind g.K.Key.bytes g.row.V-Value.bytes (state l.initial.store) (state l.store) l.calls l.initial.answers l.answers l.i
+invariant-loop-i g l = MadeCalls g.K.Key.kind g.V.Value.kind g.K.Key.bytes g.V.Value.bytes (state l.initial.store) (state l.store) l.calls l.initial.answers l.answers l.i

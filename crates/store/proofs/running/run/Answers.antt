@@ -10,12 +10,12 @@ returns-in-err-start g c =
 
 pub make-calls-requires : goal.make-calls-requires
 make-calls-requires g c =
-    new_started g.K.Key.kind g.row.V-Value.kind g.K.Key.bytes g.row.V-Value.bytes c.args.nodes.now c.start.new.nodes c.args.entries.now c.start.new.entries
+    new_started g.K.Key.kind g.V.Value.kind g.K.Key.bytes g.V.Value.bytes c.args.nodes.now c.start.new.nodes c.args.entries.now c.start.new.entries
     c.in-ok-start.ensures.1.1 (state c.over-store.result) c.over-store.ensures
 
 pub returns : goal.returns
 returns g c =
     let s = c.in-ok-start.ensures in
-    completed g.K.Key.kind g.row.V-Value.kind g.K.Key.bytes g.row.V-Value.bytes c.args.nodes.now c.start.new.nodes c.args.entries.now c.start.new.entries
+    completed g.K.Key.kind g.V.Value.kind g.K.Key.bytes g.V.Value.bytes c.args.nodes.now c.start.new.nodes c.args.entries.now c.start.new.entries
     s.1.1 (state c.over-store.result) c.over-store.ensures (state c.make-calls.new.store) c.args.calls.now c.args.answers.now c.make-calls.new.answers c.make-calls.result
     s.0 s.1.0 c.make-calls.ensures.many c.make-calls.ensures.made
