@@ -1,7 +1,6 @@
 // Tests of the kinds on published vectors and at the edges of what is readable.
 #![tactic(auto)]
 
-
 #[cfg(test)]
 mod tests {
     use keys::{Bobbin, Id, Path};

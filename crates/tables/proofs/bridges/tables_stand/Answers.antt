@@ -26,9 +26,9 @@ returns g c =
         noted_same entry-note r a,
       );
       entries_left = λ cs ds f s h t es ef eu j E held p G L. (held_entries cs ds j p held.is es ef eu E G, held_entryless cs ds j p held.is L);
-      entries-taken = λ cs ds f s h t es ef eu r new E m p G L. (made_entries cs ds r new m.inside m.was_free m.is L es ef eu E G, made_entryless cs ds r new m.inside m.was_free m.is L p);
+      entries_taken = λ cs ds f s h t es ef eu r new E m p G L. (made_entries cs ds r new m.inside m.was_free m.is L es ef eu E G, made_entryless cs ds r new m.inside m.was_free m.is L p);
       owned = λ cs f s es note entry-note roots H M. (nodes_reached K kb vb cs es note entry-note f s roots H M, reached_nodes K kb vb cs es note entry-note f s roots H M);
-      entry-owned = λ cs f s es ef eu note entry-note roots in_hand H G L M. (
+      entry_owned = λ cs f s es ef eu note entry-note roots in_hand H G L M. (
         entries_reached K kb vb cs es note entry-note f s roots H M ef eu in_hand G L,
         reached_entries K kb vb cs es note entry-note f s roots H M ef eu in_hand G L,
       );

@@ -3,12 +3,12 @@ use Rattle.tables.proofs.Chains.{head_free}
 use Rattle.tables.proofs.EntryCounts.{made_step}
 use Rattle.tables.proofs.entries.make_entry.Goals as goal
 
-pub cell-at-old-requires : goal.cell-at-old-requires
-cell-at-old-requires g c = (head_free _ _ _ _ _ c.requires.heap.1.1.chain c.requires.some).0
+pub cell_at-old-requires : goal.cell_at-old-requires
+cell_at-old-requires g c = (head_free _ _ _ _ _ c.requires.heap.1.1.chain c.requires.some).0
 
-pub put-cell-requires : goal.put-cell-requires
-put-cell-requires g c = (head_free _ _ _ _ _ c.requires.heap.1.1.chain c.requires.some).0
+pub put_cell-requires : goal.put_cell-requires
+put_cell-requires g c = (head_free _ _ _ _ _ c.requires.heap.1.1.chain c.requires.some).0
 
 pub returns : goal.returns
 returns g c =
-    made_step _ _ _ _ _ _ _ _ c.requires.heap.1.1 c.requires.some refl refl c.cell-at-old.ensures c.put-cell.ensures
+    made_step _ _ _ _ _ _ _ _ c.requires.heap.1.1 c.requires.some refl refl c.cell_at-old.ensures c.put_cell.ensures

@@ -6,8 +6,8 @@ use Rattle.tables.proofs.freeing.clear_freed.Goals as goal
 pub loop-k-init : goal.loop-k-init
 loop-k-init g c = (sym (after_none _ _), rw walk_none (none_cleared _ _ _ _))
 
-pub clear-cell-at-requires : goal.clear-cell-at-requires
-clear-cell-at-requires g c =
+pub clear_cell-at-requires : goal.clear_cell-at-requires
+clear_cell-at-requires g c =
     let H = c.requires.heap.1.1.0 in
     let done = c.loop-k.invariant.1 in
     record {
@@ -18,6 +18,6 @@ clear-cell-at-requires g c =
 
 pub loop-k-preserved : goal.loop-k-preserved
 loop-k-preserved g c = (
-  c.clear-cell-at.ensures.next ∙ step_on _ _ _ _ c.loop-k.invariant.0 _ _ _ _ _ _ _ c.loop-k.invariant.1,
-  one_step _ _ _ _ c.loop-k.invariant.0 _ _ _ _ _ _ _ c.loop-k.invariant.1 _ _ _ _ c.clear-cell-at.ensures.cleared,
+  c.clear_cell-at.ensures.next ∙ step_on _ _ _ _ c.loop-k.invariant.0 _ _ _ _ _ _ _ c.loop-k.invariant.1,
+  one_step _ _ _ _ c.loop-k.invariant.0 _ _ _ _ _ _ _ c.loop-k.invariant.1 _ _ _ _ c.clear_cell-at.ensures.cleared,
 )

@@ -2,14 +2,14 @@ use Rattle.std.proofs.Common.{arith}
 use Rattle.tables.proofs.Clearing.{more_spare, entries_stay, given_up}
 use Rattle.tables.proofs.freeing.release.Goals as goal
 
-pub overflow-sub-freed : goal.overflow-sub-freed
-overflow-sub-freed g c = more_spare _ _ _ _ c.args.entries.now.cells.now 0 0 _ _ _ c.release-nodes.ensures _ c.requires.nodes.1
+pub overflow_sub-freed : goal.overflow_sub-freed
+overflow_sub-freed g c = more_spare _ _ _ _ c.args.entries.now.cells.now 0 0 _ _ _ c.release_nodes.ensures _ c.requires.nodes.1
 
-pub clear-freed-requires : goal.clear-freed-requires
-clear-freed-requires g c = record {
-  heap = (_, (_, ((c.release-nodes.ensures.nodes _ c.requires.nodes.1).0, omega arith)));
-  entries = (_, entries_stay _ _ _ _ _ _ _ _ _ _ c.release-nodes.ensures _ c.requires.entries.1);
+pub clear_freed-requires : goal.clear_freed-requires
+clear_freed-requires g c = record {
+  heap = (_, (_, ((c.release_nodes.ensures.nodes _ c.requires.nodes.1).0, omega arith)));
+  entries = (_, entries_stay _ _ _ _ _ _ _ _ _ _ c.release_nodes.ensures _ c.requires.entries.1);
 }
 
 pub returns : goal.returns
-returns g c = given_up _ _ _ _ _ _ _ _ _ _ c.release-nodes.ensures _ _ _ _ c.clear-freed.ensures _ c.requires.nodes.1
+returns g c = given_up _ _ _ _ _ _ _ _ _ _ c.release_nodes.ensures _ _ _ _ c.clear_freed.ensures _ c.requires.nodes.1

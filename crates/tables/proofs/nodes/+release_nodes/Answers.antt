@@ -18,14 +18,14 @@ returns-then-old-gt1 t c = fewer_released _ _ _ _ c.if-old-gt1.true
 pub bounds-nodes-at-2 : goal.bounds-nodes-at-2
 bounds-nodes-at-2 t c = inside _ _ (rooted _ _ _ _ _ c.requires.1)
 
-pub overflow-add-nodes : goal.overflow-add-nodes
-overflow-add-nodes t c = omega (arith, spare_le _ _ _ _ _ c.requires.1.chain, c.requires.1.short)
+pub overflow_add-nodes : goal.overflow_add-nodes
+overflow_add-nodes t c = omega (arith, spare_le _ _ _ _ _ c.requires.1.chain, c.requires.1.short)
 
 pub loop-k-init : goal.loop-k-init
 loop-k-init t c = released_none _ _ _
 
-pub release-nodes-requires : goal.release-nodes-requires
-release-nodes-requires t c =
+pub release_nodes-requires : goal.release_nodes-requires
+release_nodes-requires t c =
     let held = rooted _ _ _ _ _ c.requires.1 in
     let p : c.loop-k.k < ones (cell c.args.nodes.now.cells.now c.args.id.0).nodemap = omega arith in (
       omega (arith, kid_level _ _ _ _ held c.if-old-gt1.false _ _ _ _ c.loop-k.invariant _ c.requires.1 p, c.decreases),
@@ -34,7 +34,7 @@ release-nodes-requires t c =
 
 pub loop-k-preserved : goal.loop-k-preserved
 loop-k-preserved t c =
-    kid_released _ _ _ _ (rooted _ _ _ _ _ c.requires.1) c.if-old-gt1.false _ _ _ _ c.loop-k.invariant _ _ _ (omega arith) c.release-nodes.ensures
+    kid_released _ _ _ _ (rooted _ _ _ _ _ c.requires.1) c.if-old-gt1.false _ _ _ _ c.loop-k.invariant _ _ _ (omega arith) c.release_nodes.ensures
 
 pub returns : goal.returns
 returns t c = all_released _ _ _ _ (rooted _ _ _ _ _ c.requires.1) c.if-old-gt1.false _ _ _ _ c.loop-k.invariant (omega arith)

@@ -7,11 +7,11 @@ returns g c = (
   (
     omega arith,
     record {
-      nodes_long = c.format-nodes.ensures.long;
-      entries_long = c.format-entries.ensures.long;
-      nodes = c.format-nodes.ensures.nodes;
-      entries = c.format-entries.ensures.entries _ c.format-nodes.ensures.unreferred;
-      entryless = c.format-nodes.ensures.entryless;
+      nodes_long = c.format_nodes.ensures.long;
+      entries_long = c.format_entries.ensures.long;
+      nodes = c.format_nodes.ensures.nodes;
+      entries = c.format_entries.ensures.entries _ c.format_nodes.ensures.unreferred;
+      entryless = c.format_nodes.ensures.entryless;
     },
   ),
 )
