@@ -2,7 +2,7 @@
 use std::alloc::{AllocError, AllocFailed};
 use std::{fmt, io};
 
-#[derive(Drop)]
+#[derive(Debug, Drop)]
 pub enum Fault {
     Memory,
     Io(io::Error),
