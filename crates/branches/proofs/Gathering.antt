@@ -1,7 +1,7 @@
 -- All of a result's part, digit by digit: one branch more in hand, and what the sixteen make. Assumes nothing.
 use Rattle.std.proofs.Common.{◌≡◌, ℕ, suc, ◌+◌, ◌*◌, ◌<◌, ◌≤◌, Bool, true, cond, eqb, ltb, List, [], ◌∷◌, ◌++◌, map, length, None, sum_by, sym, refl, ap, ◌∙◌, subst, ap₂, inl, inr, arith}
 use mathlib.Core.List.Memᴰ
-use Rattle.std.specs.List.{range_with_len, AllByRecursion as All}
+use Rattle.std.specs.List.{range_with_len, AllByRecursion}
 use Rattle.std.proofs.lemmas.List.{append-nil, length-map}
 use Rattle.std.proofs.lemmas.List.Sums.{sum_by-cons}
 use Rattle.std.proofs.lemmas.Bool.{cases_eq, cond-true, cond-false, eq-eqb, ne_eqb, eqb-true, lt-ltb, ltb-true}
@@ -231,7 +231,7 @@ module _ {X Y : Type 0} (K : KeyKind) (kb : X → List ℕ) (vb : Y → List ℕ
       → ((s : Setting) × (m ≡ s ∷ [])) × Built K kb vb n (suc h) p m (portion K n (suc h) p sources m) T N R E (Entry e) U
   gathered_entry e U G low =
       let s : Setting = (G.notes.entry e.0).setting in
-      let alone : m ≡ s ∷ [] = one_member m s ((gathered_sizes (e.0 ∷ []) [] U G).0 refl) (subst (All (λ s. Mem s m)) (sym G.settings_are) (picked_mem K (length p) m (range_with_len 0 16))).0 in
+      let alone : m ≡ s ∷ [] = one_member m s ((gathered_sizes (e.0 ∷ []) [] U G).0 refl) (subst (AllByRecursion (λ s. Mem s m)) (sym G.settings_are) (picked_mem K (length p) m (range_with_len 0 16))).0 in
       let shared : portion K n (suc h) p sources m ≡ entry_from n sources s = ap (portion K n (suc h) p sources) alone ∙ portion_one K n (suc h) p sources s low in
       let kids = no_kids (e.0 ∷ []) [] U G refl in
       let own = sym G.settings_are in (

@@ -1,6 +1,6 @@
 -- The digits with one setting and those with more, and sums of what is shared. Assumes nothing.
 use Rattle.std.proofs.Common.{◌≡◌, ℕ, suc, ◌+◌, ◌*◌, ◌<◌, ◌≤◌, Bool, true, false, cond, eqb, ltb, List, [], ◌∷◌, ◌++◌, map, length, Some, sum_by, sym, refl, ap, ◌∙◌, subst, ap₂, inl, inr, append_assoc, arith}
-use Rattle.std.specs.List.{range_with_len, flat_map, AllByRecursion as All}
+use Rattle.std.specs.List.{range_with_len, flat_map, AllByRecursion}
 use Rattle.std.proofs.lemmas.List.{append-nil}
 use Rattle.std.proofs.lemmas.List.Sums.{sum_by-cons}
 use Rattle.std.proofs.lemmas.Bool.{cases_eq, cond-true, cond_both, and_parts, eqb-true, ne_eqb, lt-ltb}
@@ -117,11 +117,11 @@ module _ (f : ℕ → Map) where
       go (s ∷ (u ∷ w)) o k t i z = absurd (omega (arith, ap length (sym (cond-true (ltb 1 (suc (suc (length w)))) (x ∷ k) k (lt-ltb 1 (suc (suc (length w))) (omega arith))) ∙ z)))
 
 -- the settings that are alone are some of all
-pub picked_mem : (K : KeyKind) (d : ℕ) (m : Map) (l : List ℕ) → All (λ s. Mem s m) (picked one (λ q. q) (map (at_digit K d m) l))
+pub picked_mem : (K : KeyKind) (d : ℕ) (m : Map) (l : List ℕ) → AllByRecursion (λ s. Mem s m) (picked one (λ q. q) (map (at_digit K d m) l))
 picked_mem K d m [] = tt
 picked_mem K d m (x ∷ l) = all_join (λ s. Mem s m) (cond (one (at_digit K d m x)) (at_digit K d m x) []) (picked one (λ q. q) (map (at_digit K d m) l)) (go (one (at_digit K d m x))) (picked_mem K d m l)
   where
-    go : (b : Bool) → All (λ s. Mem s m) (cond b (at_digit K d m x) [])
+    go : (b : Bool) → AllByRecursion (λ s. Mem s m) (cond b (at_digit K d m x) [])
     go true = all_from_mem (λ s. Mem s m) (at_digit K d m x) (λ s i. (mem_of_filter (λ s. eqb (digit (K.hash s.key) d) x) m s i).0)
     go false = tt
 

@@ -1,7 +1,7 @@
 -- One key of a map in rising order is set or cleared, and the entries of its settings. Assumes nothing.
 use Rattle.std.proofs.Common.{◌≡◌, ℕ, zero, suc, ◌+◌, ◌<◌, Bool, true, false, cond, List, [], ◌∷◌, ◌++◌, map, length, get_or, Some, None, Option, sym, refl, ap, ◌∙◌, subst, ap₂, inl, inr, arith, length-append}
 use mathlib.Core.List.Memᴰ
-use Rattle.std.specs.List.{AllByRecursion as All}
+use Rattle.std.specs.List.{AllByRecursion}
 use Rattle.std.proofs.lemmas.Bool.{cond-true, cond-false}
 use Rattle.byte_rows.specs.Rows.{same}
 use Rattle.byte_rows.proofs.Orders.{same_tells, same_decides}
@@ -23,28 +23,28 @@ lone k None = []
 
 -- every key of a map before a key
 abbrev pub Behind : KeyKind → List ℕ → Map → Type 0
-Behind K k m = All (λ s. K.before s.key k ≡ true) m
+Behind K k m = AllByRecursion (λ s. K.before s.key k ≡ true) m
 
 -- ---- rows one after another
 
-all_front : {A : Type 0} (P : A → Type 0) (xs ys : List A) → All P (xs ++ ys) → All P xs
+all_front : {A : Type 0} (P : A → Type 0) (xs ys : List A) → AllByRecursion P (xs ++ ys) → AllByRecursion P xs
 all_front P [] ys a = tt
 all_front P (x ∷ xs) ys a = (a.0, all_front P xs ys a.1)
 
-all_back : {A : Type 0} (P : A → Type 0) (xs ys : List A) → All P (xs ++ ys) → All P ys
+all_back : {A : Type 0} (P : A → Type 0) (xs ys : List A) → AllByRecursion P (xs ++ ys) → AllByRecursion P ys
 all_back P [] ys a = a
 all_back P (x ∷ xs) ys a = all_back P xs ys a.1
 
-all_both : {A : Type 0} (P : A → Type 0) (xs ys : List A) → All P xs → All P ys → All P (xs ++ ys)
+all_both : {A : Type 0} (P : A → Type 0) (xs ys : List A) → AllByRecursion P xs → AllByRecursion P ys → AllByRecursion P (xs ++ ys)
 all_both P [] ys a b = b
 all_both P (x ∷ xs) ys a b = (a.0, all_both P xs ys a.1 b)
 
-all_lone : (P : Setting → Type 0) (k : List ℕ) (x : Option (List ℕ)) (m : Map) → ((v : List ℕ) → x ≡ Some v → P (record { key = k; value = v })) → All P m → All P (lone k x ++ m)
+all_lone : (P : Setting → Type 0) (k : List ℕ) (x : Option (List ℕ)) (m : Map) → ((v : List ℕ) → x ≡ Some v → P (record { key = k; value = v })) → AllByRecursion P m → AllByRecursion P (lone k x ++ m)
 all_lone P k (Some v) m h a = (h v refl, a)
 all_lone P k None m h a = a
 
 -- one thing taken out of a row
-all_without : {A : Type 0} (P : A → Type 0) (xs : List A) (y : A) (ys : List A) → All P (xs ++ (y ∷ ys)) → All P (xs ++ ys)
+all_without : {A : Type 0} (P : A → Type 0) (xs : List A) (y : A) (ys : List A) → AllByRecursion P (xs ++ (y ∷ ys)) → AllByRecursion P (xs ++ ys)
 all_without P [] y ys a = a.1
 all_without P (x ∷ xs) y ys a = (a.0, all_without P xs y ys a.1)
 
@@ -190,7 +190,7 @@ mem_getD (x ∷ xs) (suc j) d h = Memᴰ.tail (mem_getD xs j d (omega arith))
 module _ {X : Type 0} (K : KeyKind) (label : X → Marked) (setting : X → Setting) where
   -- each label has the key of its setting
   abbrev pub Labelled : List X → Type 0
-  Labelled xs = All (λ e. (label e).what ≡ (setting e).key) xs
+  Labelled xs = AllByRecursion (λ e. (label e).what ≡ (setting e).key) xs
 
   pub mark_mem : (xs : List X) → Labelled xs → Rises K (map setting xs) → (e : X) → Mem e xs → mark_of (map label xs) (setting e).key ≡ (label e).mark
   mark_mem [] l r e i = absurd (Memᴰ.not-nil i)
@@ -219,6 +219,6 @@ module _ {X : Type 0} (K : KeyKind) (label : X → Marked) (setting : X → Sett
         entry_of_source K n a rest (setting e) rises (subst (Mem (setting e)) settings (mem_map setting xs e i))
         ∙ (λ t. record { nodes = []; entries = record { what = sym w t; mark = k t } ∷ []; new_nodes = 0; new_entries = 0 })
 
-    pub entries_listed : (ys : List X) → All (λ e. Mem e xs) ys → sum (entry_from n (a ∷ rest)) (map setting ys) ≡ record { nodes = []; entries = map label ys; new_nodes = 0; new_entries = 0 }
+    pub entries_listed : (ys : List X) → AllByRecursion (λ e. Mem e xs) ys → sum (entry_from n (a ∷ rest)) (map setting ys) ≡ record { nodes = []; entries = map label ys; new_nodes = 0; new_entries = 0 }
     entries_listed [] m = refl
     entries_listed (e ∷ ys) m = ap₂ ◌⊕◌ (entry_listed e m.0) (entries_listed ys m.1)

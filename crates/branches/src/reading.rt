@@ -1,6 +1,6 @@
 // Reading the tables: the setting of an entry, and what a branch has at a digit.
 ghost use Rattle.std.specs.Prelude.{◌≡◌, ◌-◌, ◌<◌, ◌≤◌};
-ghost use Rattle.model.specs.Tries.{digit as hash-digit};
+ghost use Rattle.model.specs.Tries.{digit as hash_digit};
 ghost use Rattle.branches.specs.Branches.{SomePart, SomeEntry, SettingRead, Goes_on};
 ghost use Rattle.branches.specs.States.{tables_of};
 
@@ -11,7 +11,7 @@ use tables::{EntryId, EntryTable, NodeTable, child_at, entry_at, entry_cell_at};
 // The digit of a hash with so many levels from there on: four bits, the lowest at level 8.
 pub fn digit_of(hash: u32, level: u8) -> u8
     requires { (1 ≤ level) × (level ≤ 8) }
-    ensures value { result ≡ hash-digit hash (8 - level) }
+    ensures value { result ≡ hash_digit hash (8 - level) }
     ensures small { result < 16 }
 {
     let shift = 4 * (8 - level);

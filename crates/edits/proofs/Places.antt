@@ -1,6 +1,6 @@
 -- Where a key is in a row of entries. Assumes nothing.
 use Rattle.std.proofs.Common.{◌≡◌, ℕ, zero, suc, ◌+◌, ◌<◌, ◌≤◌, true, false, List, [], ◌∷◌, length, get_or, take, drop, sym, ap, ◌∙◌, subst, arith}
-use Rattle.std.specs.List.{AllByRecursion as All}
+use Rattle.std.specs.List.{AllByRecursion}
 use Rattle.std.proofs.lemmas.List.{length-map, length-take-le, get_or-map, get_or-take, drop_more, drop_all}
 use Rattle.std.proofs.ByRecursion.{All-more, All-weaker}
 use Rattle.kinds.specs.Kinds.{KeyKind}
@@ -15,10 +15,10 @@ no_setting = record { key = []; value = [] }
 
 -- the first so many settings of a row come before a key
 abbrev pub Passed : {X Y : Type 0} → KeyKind → (X → List ℕ) → (Y → List ℕ) → List (EntryCell X Y) → Row → List ℕ → ℕ → Type 0
-Passed K kb vb es r k j = All (λ s. K.before s.key k ≡ true) (take j (row_settings kb vb es r))
+Passed K kb vb es r k j = AllByRecursion (λ s. K.before s.key k ≡ true) (take j (row_settings kb vb es r))
 
 -- in a rising map a key comes before all behind it
-rises_after : (K : KeyKind) (m : Map) (j : ℕ) → j < length m → Rises K m → All (λ t. K.before (get_or m j no_setting).key t.key ≡ true) (drop (suc j) m)
+rises_after : (K : KeyKind) (m : Map) (j : ℕ) → j < length m → Rises K m → AllByRecursion (λ t. K.before (get_or m j no_setting).key t.key ≡ true) (drop (suc j) m)
 rises_after K [] j h r = absurd (omega arith)
 rises_after K (s ∷ m) zero h r = r.0
 rises_after K (s ∷ m) (suc j) h r = rises_after K m j (omega arith) r.1
@@ -47,18 +47,18 @@ module _ {X Y : Type 0} (kb : X → List ℕ) (vb : Y → List ℕ) (es : List (
       pub passed_more : K.before (kb key) k ≡ true → Passed K kb vb es r k (j + 1)
       passed_more b = All-more (λ s. K.before s.key k ≡ true) (row_settings kb vb es r) j no_setting within passed (ap (λ (x : List ℕ). K.before x k) key_in ∙ b)
 
-      after_key : Rises K (row_settings kb vb es r) → All (λ t. K.before (kb key) t.key ≡ true) (drop (j + 1) (row_settings kb vb es r))
+      after_key : Rises K (row_settings kb vb es r) → AllByRecursion (λ t. K.before (kb key) t.key ≡ true) (drop (j + 1) (row_settings kb vb es r))
       after_key up =
           let one : j + 1 ≡ suc j = omega arith in
-          subst (λ (x : List ℕ). All (λ t. K.before x t.key ≡ true) (drop (j + 1) (row_settings kb vb es r))) key_in
-          (subst (λ (i : ℕ). All (λ t. K.before (get_or (row_settings kb vb es r) j no_setting).key t.key ≡ true) (drop i (row_settings kb vb es r))) (sym one) (rises_after K (row_settings kb vb es r) j within up))
+          subst (λ (x : List ℕ). AllByRecursion (λ t. K.before x t.key ≡ true) (drop (j + 1) (row_settings kb vb es r))) key_in
+          (subst (λ (i : ℕ). AllByRecursion (λ t. K.before (get_or (row_settings kb vb es r) j no_setting).key t.key ≡ true) (drop i (row_settings kb vb es r))) (sym one) (rises_after K (row_settings kb vb es r) j within up))
 
       pub placed_here : kb key ≡ k → Rises K (row_settings kb vb es r) → Placed K (row_settings kb vb es r) k j true
       placed_here e up = record {
         inside = omega (arith, settings_long);
         behind = passed;
         here = λ z. key_in ∙ e;
-        ahead = subst (λ (x : List ℕ). All (λ t. K.before x t.key ≡ true) (drop (j + 1) (row_settings kb vb es r))) e (after_key up);
+        ahead = subst (λ (x : List ℕ). AllByRecursion (λ t. K.before x t.key ≡ true) (drop (j + 1) (row_settings kb vb es r))) e (after_key up);
       }
 
       pub placed_before : K.before k (kb key) ≡ true → Rises K (row_settings kb vb es r) → Placed K (row_settings kb vb es r) k j false
@@ -68,10 +68,10 @@ module _ {X Y : Type 0} (kb : X → List ℕ) (vb : Y → List ℕ) (es : List (
         here = λ z. absurd (let w : ◌≡◌ {A = ℕ} 0 1 = cc in omega arith);
         ahead =
             let z : j + 0 ≡ j = omega arith in
-            let all : All (λ t. K.before k t.key ≡ true) (drop (j + 1) (row_settings kb vb es r)) =
+            let all : AllByRecursion (λ t. K.before k t.key ≡ true) (drop (j + 1) (row_settings kb vb es r)) =
             All-weaker (λ t. K.before (kb key) t.key ≡ true) (λ t. K.before k t.key ≡ true) (λ t e. K.before_onward k (kb key) t.key b e) (drop (j + 1) (row_settings kb vb es r)) (after_key up) in
-            subst (λ (i : ℕ). All (λ t. K.before k t.key ≡ true) (drop i (row_settings kb vb es r))) (sym z)
-            (subst (λ (l : Map). All (λ t. K.before k t.key ≡ true) l) (sym (drop_more (row_settings kb vb es r) j no_setting within)) (ap (K.before k) key_in ∙ b, all));
+            subst (λ (i : ℕ). AllByRecursion (λ t. K.before k t.key ≡ true) (drop i (row_settings kb vb es r))) (sym z)
+            (subst (λ (l : Map). AllByRecursion (λ t. K.before k t.key ≡ true) l) (sym (drop_more (row_settings kb vb es r) j no_setting within)) (ap (K.before k) key_in ∙ b, all));
       }
 
     pub placed_last : (j : ℕ) → r.count ≤ j → j ≤ r.count → Passed K kb vb es r k j → Placed K (row_settings kb vb es r) k r.count false
@@ -83,6 +83,6 @@ module _ {X Y : Type 0} (kb : X → List ℕ) (vb : Y → List ℕ) (es : List (
           behind = subst (Passed K kb vb es r k) e passed;
           here = λ z. absurd (let w : ◌≡◌ {A = ℕ} 0 1 = cc in omega arith);
           ahead =
-              subst (λ (l : Map). All (λ t. K.before k t.key ≡ true) l)
+              subst (λ (l : Map). AllByRecursion (λ t. K.before k t.key ≡ true) l)
               (sym (drop_all (r.count + 0) (row_settings kb vb es r) (omega (arith, settings_long)))) tt;
         }

@@ -1,7 +1,7 @@
 -- What setting one key of a row would take. Assumes nothing.
 use Rattle.std.proofs.Common.{◌≡◌, ℕ, ◌+◌, ◌-◌, ◌≤◌, Bool, true, false, cond, not, ltb, List, [], ◌∷◌, ◌++◌, length, get_or, take, drop, is_some, Some, None, Decides, Option, sym, refl, ap, ◌∙◌, inl, inr, arith}
 use mir.Val.{bool_byte}
-use Rattle.std.specs.List.{AllByRecursion as All}
+use Rattle.std.specs.List.{AllByRecursion}
 use Rattle.std.proofs.ByRecursion.{All-take, All-drop}
 use Rattle.kinds.specs.Kinds.{KeyKind, ValueKind}
 use Rattle.byte_rows.proofs.Orders.{same_decides}
@@ -56,7 +56,7 @@ module _ {X Y : Type 0} (K : KeyKind) (kb : X → List ℕ) (vb : Y → List ℕ
 
 module _ (K : KeyKind) (n : ℕ) (a : Part) where
   -- settings that the source has
-  old_free : (l : Map) → All (λ s. look a.settings s.key ≡ Some s.value) l → (sum (entry_from n (a ∷ (a ∷ []))) l).new_entries ≡ 0
+  old_free : (l : Map) → AllByRecursion (λ s. look a.settings s.key ≡ Some s.value) l → (sum (entry_from n (a ∷ (a ∷ []))) l).new_entries ≡ 0
   old_free [] h = refl
   old_free (s ∷ l) h = omega (arith, ap (λ (q : Shared). q.new_entries) (entry_old K n a (a ∷ []) s h.0), old_free l h.1)
 
@@ -139,7 +139,7 @@ module _ {X Y : Type 0} (K : KeyKind) (V : ValueKind) (kb : X → List ℕ) (vb 
       new_entries n =
           let f : Setting → Shared = entry_from n (q.source ∷ (q.source ∷ [])) in
           let P : Setting → Type 0 = λ s. look old s.key ≡ Some s.value in
-          let all : All P old = all_from_mem P old (λ s i. look_mem K old s q.sound.rises i) in
+          let all : AllByRecursion P old = all_from_mem P old (λ s i. look_mem K old s q.sound.rises i) in
           let before = old_free K n q.source (take at old) (All-take P at old all) in
           let after = old_free K n q.source (drop (at + cond found 1 0) old) (All-drop P (at + cond found 1 0) old all) in
           ap (λ (m : Map). (sum f m).new_entries) (edited_place K V old k at q.sound q.key_reads x reads found placed)

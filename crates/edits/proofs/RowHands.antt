@@ -1,7 +1,7 @@
 -- The settings of a row's result in hand, as they are taken up one after another. Assumes nothing.
 use Rattle.std.proofs.Common.{◌≡◌, ℕ, ◌+◌, ◌-◌, ◌<◌, ◌≤◌, List, [], ◌∷◌, ◌++◌, map, take, drop, Some, None, Option, sym, refl, ap, ◌∙◌, subst, inl, inr, arith}
 use mathlib.Core.List.Memᴰ
-use Rattle.std.specs.List.{AllByRecursion as All}
+use Rattle.std.specs.List.{AllByRecursion}
 use Rattle.std.proofs.lemmas.List.{append-nil, take-map, drop-map, take-take, drop-take}
 use Rattle.std.proofs.lemmas.Bool.{cases_eq}
 use Rattle.std.proofs.ByRecursion.{All-take, All-drop}
@@ -74,9 +74,9 @@ module _ {X Y : Type 0} (K : KeyKind) (kb : X → List ℕ) (vb : Y → List ℕ
         sym (ap (take (to - from)) (ap (λ (i : ℕ). drop from (take i r.slots)) (sym c) ∙ drop-take from (r.count - from) r.slots)
         ∙ take-take (to - from) (r.count - from) (drop from r.slots) (omega arith))
 
-    range_mem : (from to : ℕ) → from ≤ to → to ≤ r.count → All (λ e. Mem e (in_row r)) (row_range r from to)
+    range_mem : (from to : ℕ) → from ≤ to → to ≤ r.count → AllByRecursion (λ e. Mem e (in_row r)) (row_range r from to)
     range_mem from to l h =
-        subst (λ (ys : List ℕ). All (λ e. Mem e (in_row r)) ys) (sym (range_in from to l h))
+        subst (λ (ys : List ℕ). AllByRecursion (λ e. Mem e (in_row r)) ys) (sym (range_in from to l h))
         (All-take (λ e. Mem e (in_row r)) (to - from) (drop from (in_row r)) (All-drop (λ e. Mem e (in_row r)) from (in_row r) (all_from_mem (λ e. Mem e (in_row r)) (in_row r) (λ e i. i))))
 
     pub range_settings : (from to : ℕ) → from ≤ to → to ≤ r.count → map setting (row_range r from to) ≡ take (to - from) (drop from a.settings)
@@ -84,7 +84,7 @@ module _ {X Y : Type 0} (K : KeyKind) (kb : X → List ℕ) (vb : Y → List ℕ
         ap (map setting) (range_in from to l h) ∙ sym (take-map setting (to - from) (drop from (in_row r))) ∙ ap (take (to - from)) (sym (drop-map setting from (in_row r)))
         ∙ ap (λ (s : Map). take (to - from) (drop from s)) W.settings
 
-    labelled : All (λ e. (label e).what ≡ (setting e).key) (in_row r)
+    labelled : AllByRecursion (λ e. (label e).what ≡ (setting e).key) (in_row r)
     labelled = all_from_mem (λ e. (label e).what ≡ (setting e).key) (in_row r) (λ e i. label_key K kb vb T N R E S e (W.held e (occ_mem (in_row r) e i)))
 
     module _ (from to : ℕ) (low : from ≤ to) (high : to ≤ r.count) where

@@ -1,6 +1,6 @@
 -- Rows of entries at the deepest level: read, searched and taken up. Assumes nothing.
 use Rattle.std.specs.Prelude.{◌≡◌, ℕ, ◌+◌, ◌-◌, ◌<◌, ◌≤◌, Bool, true, false, cond, List, [], ◌∷◌, ◌++◌, map, length, take, drop, is_some, Some, None, Option, nat_lt, slice_index, slice_index_or, slice_range}
-use Rattle.std.specs.List.{AllByRecursion as All}
+use Rattle.std.specs.List.{AllByRecursion}
 use Rattle.kinds.specs.Kinds.{KeyKind}
 use Rattle.model.specs.Maps.{Setting, Map, Rises}
 use Rattle.tables.specs.declared.cells.NodeCell.{NodeCell}
@@ -67,9 +67,9 @@ pub record SomeRow {X Y : Type 0} (K : KeyKind) (kb : X → List ℕ) (vb : Y �
 -- so many settings of a map come before a key, and the next one has it or comes after it
 pub record Placed (K : KeyKind) (m : Map) (k : List ℕ) (at : ℕ) (found : Bool) : Type 0 where
   pub inside : at + cond found 1 0 ≤ length m
-  pub behind : All (λ s. K.before s.key k ≡ true) (take at m)
+  pub behind : AllByRecursion (λ s. K.before s.key k ≡ true) (take at m)
   pub here : found ≡ true → (slice_index_or m at (record { key = []; value = [] })).key ≡ k
-  pub ahead : All (λ s. K.before k s.key ≡ true) (drop (at + cond found 1 0) m)
+  pub ahead : AllByRecursion (λ s. K.before k s.key ≡ true) (drop (at + cond found 1 0) m)
 
 -- where a key is in a row that rises
 pub record Found {X Y : Type 0} (K : KeyKind) (kb : X → List ℕ) (vb : Y → List ℕ) (es : List (EntryCell X Y)) (r : Row) (k : List ℕ) (at : ℕ) (found : Bool) : Type 0 where

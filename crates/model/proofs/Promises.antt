@@ -1,7 +1,7 @@
 -- What holds after every list of calls, together. Assumes nothing.
 use Rattle.std.proofs.Common.{◌≡◌, ℕ, ◌≤◌, List, length, Some, ap, arith}
 use mathlib.Core.List.{Memᴰ}
-use Rattle.std.specs.List.{AllByRecursion as All}
+use Rattle.std.specs.List.{AllByRecursion}
 use Rattle.kinds.specs.Kinds.{KeyKind, ValueKind}
 use Rattle.model.specs.Images.{image}
 use Rattle.model.specs.Sharing.{Marked}
@@ -19,7 +19,7 @@ use Rattle.model.proofs.Runs.Names.{same_names}
 use Rattle.model.proofs.Sizes.{marks_differ, settings_counted}
 
 -- what holds of each of a row holds of a member
-all_member : (P : Marked → Type 0) (x : Marked) {xs : List Marked} → All P xs → Memᴰ x xs → P x
+all_member : (P : Marked → Type 0) (x : Marked) {xs : List Marked} → AllByRecursion P xs → Memᴰ x xs → P x
 all_member P x a (Memᴰ.head e) = rw e a.0
 all_member P x a (Memᴰ.tail m) = all_member P x a.1 m
 

@@ -1,7 +1,7 @@
 -- What every reached account keeps: marks that stand for the trie and the keys, and tables that hold all. Assumes nothing.
 use Rattle.std.proofs.Common.{◌≡◌, ℕ, ◌+◌, ◌≤◌, true, ◌⊎◌, List, [], ◌∷◌, ◌++◌, map, set, is_some, Some, sym, refl, ap, ◌∙◌, subst, inl, inr, arith}
 use mathlib.Core.List.{Memᴰ}
-use Rattle.std.specs.List.{AllByRecursion as All}
+use Rattle.std.specs.List.{AllByRecursion}
 use Rattle.std.proofs.ByRecursion.{All-weaker}
 use Rattle.std.proofs.lemmas.Bool.{false≢true}
 use Rattle.kinds.specs.Kinds.{KeyKind, ValueKind}
@@ -21,11 +21,11 @@ use Rattle.model.proofs.Runs.Steps.{Holds, LetIn, New, cleared, opened, copied, 
 use Rattle.model.proofs.Runs.Invariants.{Good, reached_keeps_on, reached_holds, live_keeps}
 
 -- what holds of each version holds of each as a source
-all_whole : (P : Part → Type 0) (vs : List Version) → All (λ v. P (whole v)) vs → All P (map whole vs)
+all_whole : (P : Part → Type 0) (vs : List Version) → AllByRecursion (λ v. P (whole v)) vs → AllByRecursion P (map whole vs)
 all_whole P [] h = tt
 all_whole P (v ∷ vs) h = (h.0, all_whole P vs h.1)
 
-all_both : {A : Type 0} (P Q : A → Type 0) (xs : List A) → All P xs → All Q xs → All (λ x. P x × Q x) xs
+all_both : {A : Type 0} (P Q : A → Type 0) (xs : List A) → AllByRecursion P xs → AllByRecursion Q xs → AllByRecursion (λ x. P x × Q x) xs
 all_both P Q [] p q = tt
 all_both P Q (x ∷ xs) p q = ((p.0, q.0), all_both P Q xs p.1 q.1)
 
@@ -33,7 +33,7 @@ module _ (K : KeyKind) (V : ValueKind) (exact : OnlyImagesAreAccepted K V) where
   -- ---- marks
 
   abbrev Few : ℕ → List Marked → Type 0
-  Few n xs = All (λ x. x.mark ≤ n) xs
+  Few n xs = AllByRecursion (λ x. x.mark ≤ n) xs
 
   few_later : (n : ℕ) (xs : List Marked) → Few n xs → Few (n + 1) xs
   few_later n xs = All-weaker (λ (x : Marked). x.mark ≤ n) (λ (x : Marked). x.mark ≤ n + 1) (λ x h. omega arith) xs
@@ -69,7 +69,7 @@ module _ (K : KeyKind) (V : ValueKind) (exact : OnlyImagesAreAccepted K V) where
     new_marked i p (issued j v q e) = marked_later a.calls v q.0 q.1
     new_marked i p (loaded m s l) = result_marked [] m s l
 
-  pub all_marked : (a : Account) → Reached K V a → All (Holds (Kept a)) a.places
+  pub all_marked : (a : Account) → Reached K V a → AllByRecursion (Holds (Kept a)) a.places
   all_marked = reached_holds K V exact MarkedBy marked_later (λ a r h. new_marked a)
 
   pub live_marked : (a : Account) → Reached K V a → (i : ℕ) (v : Version) → live a i ≡ Some v → MarkedBy a.calls v
@@ -98,10 +98,10 @@ module _ (K : KeyKind) (V : ValueKind) (exact : OnlyImagesAreAccepted K V) where
       taken_fits (λ v. v.entries) a.places i p a.entry_cells fits.entries s.new_entries new_entries l.entries_fit,
     )
       where
-        node_sources : All (λ v. (x : Marked) → Memᴰ x v.nodes → in_row x (held_nodes a.places) ≡ true) vs
+        node_sources : AllByRecursion (λ v. (x : Marked) → Memᴰ x v.nodes → in_row x (held_nodes a.places) ≡ true) vs
         node_sources = All-weaker _ _ (λ v k x h. live_in (λ w. w.nodes) v k x (member_in_row x h)) vs l.live
 
-        entry_sources : All (λ v. ((x : Marked) → Memᴰ x v.entries → in_row x (held_entries a.places) ≡ true) × ((k : List ℕ) → is_some (look v.settings k) ≡ true → Memᴰ k (map (λ x. x.what) v.entries))) vs
+        entry_sources : AllByRecursion (λ v. ((x : Marked) → Memᴰ x v.entries → in_row x (held_entries a.places) ≡ true) × ((k : List ℕ) → is_some (look v.settings k) ≡ true → Memᴰ k (map (λ x. x.what) v.entries))) vs
         entry_sources =
             all_both _ _ vs (All-weaker _ _ (λ v k x h. live_in (λ w. w.entries) v k x (member_in_row x h)) vs l.live)
             (All-weaker _ _ (λ v k. k.1.0.keys.all) vs l.from)

@@ -2,7 +2,7 @@
 use Rattle.std.proofs.Common.{◌≡◌, ℕ, suc, ◌≤◌, Bool, true, false, cond, List, [], ◌∷◌, map, length, is_some, Some, sym, refl, ap, ◌∙◌, subst, arith}
 use mathlib.Core.List.{Memᴰ}
 use lib.ListN.{length-map}
-use Rattle.std.specs.List.{AllByRecursion as All}
+use Rattle.std.specs.List.{AllByRecursion}
 use Rattle.std.proofs.lemmas.Bool.{both_ways}
 use Rattle.byte_rows.specs.Rows.{same}
 use Rattle.byte_rows.proofs.Orders.{same_decides}
@@ -40,7 +40,7 @@ module _ {A : Type 0} where
 
 -- ---- the keys of a map that rises
 
-ahead_none : (K : KeyKind) (k : List ℕ) (m : Map) → All (λ t. K.before k t.key ≡ true) m → Memᴰ k (keys m) → ⊥
+ahead_none : (K : KeyKind) (k : List ℕ) (m : Map) → AllByRecursion (λ t. K.before k t.key ≡ true) m → Memᴰ k (keys m) → ⊥
 ahead_none K k [] a h = elim h [ ]
 ahead_none K k (t ∷ m) a (Memᴰ.head e) = both_ways _ (K.before_not_self k) (ap (K.before k) e ∙ a.0)
 ahead_none K k (t ∷ m) a (Memᴰ.tail h) = ahead_none K k m a.1 h

@@ -1,6 +1,6 @@
 -- Finite maps from keys to values, both as bytes. Assumes nothing.
 use Rattle.std.specs.Prelude.{◌≡◌, ℕ, Bool, true, false, cond, ◌&&◌, List, [], ◌∷◌, ◌++◌, map, Some, None, Option}
-use Rattle.std.specs.List.{AllByRecursion as All}
+use Rattle.std.specs.List.{AllByRecursion}
 use Rattle.byte_rows.specs.Rows.{same}
 use Rattle.kinds.specs.Kinds.{KeyKind, ValueKind}
 
@@ -87,7 +87,7 @@ merge K V ours base theirs = tabulate K (keys ours ++ keys theirs) (λ x. decide
 -- each key comes before all that follow it
 abbrev pub Rises : KeyKind → Map → Type 0
 Rises K [] = Unit {0}
-Rises K (s ∷ m) = All (λ t. K.before s.key t.key ≡ true) m × Rises K m
+Rises K (s ∷ m) = AllByRecursion (λ t. K.before s.key t.key ≡ true) m × Rises K m
 
 -- key and value are bytes of their kinds
 abbrev pub Readable : KeyKind → ValueKind → Setting → Type 0
@@ -96,7 +96,7 @@ Readable K V s = (K.readable s.key ≡ true) × (V.readable s.value ≡ true)
 -- in rising key order, of readable settings
 pub record Sound (K : KeyKind) (V : ValueKind) (m : Map) : Type 0 where
   pub rises : Rises K m
-  pub reads : All (Readable K V) m
+  pub reads : AllByRecursion (Readable K V) m
 
 -- ---- laws
 

@@ -1,6 +1,6 @@
 -- The trie of a map: which prefixes have a node, by the sizes of the map's parts. Assumes nothing.
 use Rattle.std.specs.Prelude.{ℕ, ◌+◌, ◌/◌, ◌%◌, ◌^◌, ◌<◌, ◌≤◌, Bool, true, false, cond, ◌&&◌, ◌||◌, List, [], ◌∷◌, ◌++◌, map, length, ◌==◌, nat_eq, nat_le, nat_lt}
-use Rattle.std.specs.List.{AllByRecursion as All}
+use Rattle.std.specs.List.{AllByRecursion}
 use Rattle.kinds.specs.Kinds.{KeyKind, ValueKind}
 use Rattle.model.specs.Maps.{Map, Rises, Readable}
 
@@ -78,7 +78,7 @@ Uncrowded K m = (x : ℕ) → length (of_hash K m x) ≤ 16
 
 pub record Lawful (K : KeyKind) (V : ValueKind) (m : Map) : Type 0 where
   pub rises : Rises K m
-  pub reads : All (Readable K V) m
+  pub reads : AllByRecursion (Readable K V) m
   pub uncrowded : Uncrowded K m
   -- the number of settings fits the four bytes of the end
   pub counted : length m < 2 ^ 32

@@ -1,3 +1,2 @@
 // What an edit makes of a part of a map, digit by digit.
 #![tactic(auto)]
-

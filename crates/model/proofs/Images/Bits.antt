@@ -2,7 +2,7 @@
 use Rattle.std.proofs.Common.{◌≡◌, ℕ, suc, ◌+◌, ◌*◌, ◌/◌, ◌%◌, ◌^◌, ◌<◌, Bool, true, false, cond, eqb, List, [], ◌∷◌, ◌++◌, map, length, sym, refl, ap, ◌∙◌, pow-suc, arith}
 use native.Mathlib.Nat.{div-div-eq-div-mul}
 use lib.Bits.{bit_and}
-use Rattle.std.specs.List.{AllByRecursion as All}
+use Rattle.std.specs.List.{AllByRecursion}
 use Rattle.std.proofs.lemmas.Bool.{eqb-true, eqb-false, eq-eqb, ne_eqb}
 use Rattle.std.proofs.lemmas.Nat.{and_shr, and_mod, and_le_l, and_le_r}
 use Rattle.model.specs.Maps.{Map}
@@ -64,14 +64,14 @@ high_bits : (c : Bool) (b n : ℕ) → n ≡ cond c 1 0 + 2 * b → n / 2 ≡ b
 high_bits true b n e = omega arith
 high_bits false b n e = omega arith
 
-flags_from : (q : ℕ → Bool) (n k : ℕ) (gs : List ℕ) → Counts k gs → n / 2 ^ k ≡ bits_of q gs → All (λ g. flag n g ≡ q g) gs
+flags_from : (q : ℕ → Bool) (n k : ℕ) (gs : List ℕ) → Counts k gs → n / 2 ^ k ≡ bits_of q gs → AllByRecursion (λ g. flag n g ≡ q g) gs
 flags_from q n k [] c e = tt
 flags_from q n k (g ∷ gs) c e = (
   rw c.0 (low_bit (q k) (bits_of q gs) (n / 2 ^ k) (rw c.0 at e)),
   flags_from q n (suc k) gs c.1 (halve n k ∙ high_bits (q g) (bits_of q gs) (n / 2 ^ k) e),
 )
 
-bits_from : (q : ℕ → Bool) (n k : ℕ) (gs : List ℕ) → Counts k gs → All (λ g. flag n g ≡ q g) gs → n / 2 ^ k < 2 ^ length gs → bits_of q gs ≡ n / 2 ^ k
+bits_from : (q : ℕ → Bool) (n k : ℕ) (gs : List ℕ) → Counts k gs → AllByRecursion (λ g. flag n g ≡ q g) gs → n / 2 ^ k < 2 ^ length gs → bits_of q gs ≡ n / 2 ^ k
 bits_from q n k [] c a h = omega arith
 bits_from q n k (g ∷ gs) c a h =
     let rest : bits_of q gs ≡ n / 2 ^ suc k = bits_from q n (suc k) gs c.1 a.1 (rw (halve n k) (omega (arith, pow-suc 2 (length gs)))) in
@@ -80,13 +80,13 @@ bits_from q n k (g ∷ gs) c a h =
     omega (arith, rest, first, halve n k)
 
 -- the bits of the digits that pass
-pub flags_of_bits : (q : ℕ → Bool) → All (λ g. flag (bits_of q sixteen) g ≡ q g) sixteen
+pub flags_of_bits : (q : ℕ → Bool) → AllByRecursion (λ g. flag (bits_of q sixteen) g ≡ q g) sixteen
 flags_of_bits q = flags_from q (bits_of q sixteen) 0 sixteen sixteen_counts (omega arith)
 
 pub digits_of_bits : (q : ℕ → Bool) → digits_in (bits_of q sixteen) ≡ filter q sixteen
 digits_of_bits q = filter_like (flag (bits_of q sixteen)) q sixteen (flags_of_bits q)
 
-pub bits_of_flags : (q : ℕ → Bool) (n : ℕ) → All (λ g. flag n g ≡ q g) sixteen → n < 256 ^ 2 → bits_of q sixteen ≡ n
+pub bits_of_flags : (q : ℕ → Bool) (n : ℕ) → AllByRecursion (λ g. flag n g ≡ q g) sixteen → n < 256 ^ 2 → bits_of q sixteen ≡ n
 bits_of_flags q n a h = bits_from q n 0 sixteen sixteen_counts a (rw sixteen_length (omega arith)) ∙ omega arith
 
 bit_below : (c : Bool) (b n : ℕ) → b < n → cond c 1 0 + 2 * b < n * 2

@@ -1,6 +1,6 @@
 -- Readings one after another, one for each digit: what was read falls to the digits, and spells what was read. Assumes nothing.
 use Rattle.std.proofs.Common.{◌≡◌, ℕ, ◌*◌, ◌≤◌, true, false, eqb, List, [], ◌∷◌, ◌++◌, length, sym, refl, ap, ◌∙◌, subst, ap₂, arith}
-use Rattle.std.specs.List.{AllByRecursion as All}
+use Rattle.std.specs.List.{AllByRecursion}
 use Rattle.std.proofs.lemmas.Bool.{eqb-false, ne_eqb}
 use Rattle.std.proofs.lemmas.List.{append-nil, length-append, append_assoc}
 use Rattle.byte_rows.specs.Rows.{byte_row}
@@ -13,15 +13,15 @@ use Rattle.model.proofs.Images.Readings.{then_split, byte_row_parts}
 pub record Spread (dig : Setting → ℕ) (P : Setting → Type 0) (spell : List Setting → List ℕ) (Q : ℕ → List Setting → Type 0) (c : ℕ)
     (gs : List ℕ) (zs : List Setting) (bs rest : List ℕ) : Type 0 where
   pub spelt : bs ≡ flat (λ g. spell (falls dig zs g)) gs ++ rest
-  pub holds : All (λ g. Q g (falls dig zs g)) gs
-  pub misses : (h : ℕ) → All (λ g. eqb h g ≡ false) gs → falls dig zs h ≡ []
-  pub all : All P zs
+  pub holds : AllByRecursion (λ g. Q g (falls dig zs g)) gs
+  pub misses : (h : ℕ) → AllByRecursion (λ g. eqb h g ≡ false) gs → falls dig zs h ≡ []
+  pub all : AllByRecursion P zs
   pub long : c * length gs ≤ length zs
 
 module _ (dig : Setting → ℕ) (P : Setting → Type 0) (spell : List Setting → List ℕ) (Q : ℕ → List Setting → Type 0) (c : ℕ) where
   -- one digit more
-  spread_more : (g : ℕ) (gs : List ℕ) (xs ys : List Setting) (bs mid rest : List ℕ) → All (λ x. eqb g x ≡ false) gs →
-      bs ≡ spell xs ++ mid → Q g xs → All (λ s. dig s ≡ g) xs → All P xs → c ≤ length xs →
+  spread_more : (g : ℕ) (gs : List ℕ) (xs ys : List Setting) (bs mid rest : List ℕ) → AllByRecursion (λ x. eqb g x ≡ false) gs →
+      bs ≡ spell xs ++ mid → Q g xs → AllByRecursion (λ s. dig s ≡ g) xs → AllByRecursion P xs → c ≤ length xs →
       Spread dig P spell Q c gs ys mid rest → Spread dig P spell Q c (g ∷ gs) (xs ++ ys) bs rest
   spread_more g gs xs ys bs mid rest n e q d a l s =
       let here : falls dig (xs ++ ys) g ≡ xs =
@@ -44,8 +44,8 @@ module _ (dig : Setting → ℕ) (P : Setting → Type 0) (spell : List Setting 
 
   module _ (f : ℕ → ℕ → List ℕ → Read)
       (inv : (g at : ℕ) (bs : List ℕ) (xs : List Setting) (to : ℕ) (rest : List ℕ) → byte_row bs ≡ true → f g at bs ≡ got xs to rest → (bs ≡ spell xs ++ rest) × Q g xs)
-      (q_dig : (g : ℕ) (xs : List Setting) → Q g xs → All (λ s. dig s ≡ g) xs)
-      (q_all : (g : ℕ) (xs : List Setting) → Q g xs → All P xs)
+      (q_dig : (g : ℕ) (xs : List Setting) → Q g xs → AllByRecursion (λ s. dig s ≡ g) xs)
+      (q_all : (g : ℕ) (xs : List Setting) → Q g xs → AllByRecursion P xs)
       (q_low : (g : ℕ) (xs : List Setting) → Q g xs → c ≤ length xs) where
     pub each_spread : (gs : List ℕ) → Apart gs → (at : ℕ) (bs : List ℕ) (zs : List Setting) (to : ℕ) (rest : List ℕ) → byte_row bs ≡ true →
         each f gs at bs ≡ got zs to rest → Spread dig P spell Q c gs zs bs rest

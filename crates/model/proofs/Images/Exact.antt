@@ -1,6 +1,6 @@
 -- Exactness: what is accepted is the image of a lawful map. Assumes nothing.
 use Rattle.std.proofs.Common.{◌≡◌, ℕ, ◌+◌, ◌^◌, ◌<◌, ◌≤◌, Bool, true, false, cond, eqb, ltb, List, [], ◌∷◌, ◌++◌, length, sym, refl, ap, ◌∙◌, subst, arith}
-use Rattle.std.specs.List.{AllByRecursion as All}
+use Rattle.std.specs.List.{AllByRecursion}
 use Rattle.std.proofs.lemmas.Bool.{eqb-true, and_parts}
 use Rattle.std.proofs.lemmas.List.{append-nil, nil_from_length}
 use Rattle.byte_rows.specs.Rows.{same, byte_row, in_bytes, number}
@@ -83,7 +83,7 @@ module _ (K : KeyKind) (V : ValueKind) where
           let r = root_read (0 + (1 + 3)) left xs s.1 s.2 row s.4 in
           let q = end_read (length xs) s.1 s.2 s.3 to rest (byte_row_parts (root K (gather K xs)) s.2 (ap byte_row (sym r.0) ∙ row)).1 s.5 in
           let only : zs ≡ xs = s.6 ∙ (ap (λ l. xs ++ l) q.1 ∙ append-nil xs) in
-          let reads : All (KeyReads K) xs = all_to (Readable K V) (KeyReads K) (λ t k. k.0) xs r.1.reads in
+          let reads : AllByRecursion (KeyReads K) xs = all_to (Readable K V) (KeyReads K) (λ t k. k.0) xs r.1.reads in
           subst (λ l. (bs ≡ image K V (gather K l)) × Lawful K V (gather K l)) (sym only) (
             spelt ∙ ap (λ l. 0x56 ∷ (4 ∷ (K.code ∷ (V.code ∷ l)))) (r.0 ∙ ap (λ l. root K (gather K xs) ++ l) (q.0 ∙ ap (λ n. 0x5A ∷ in_bytes 4 n) (sym r.1.once))),
             record {

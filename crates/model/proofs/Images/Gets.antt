@@ -2,7 +2,7 @@
 use Rattle.std.proofs.Common.{◌≡◌, ℕ, zero, suc, ◌+◌, ◌*◌, ◌/◌, ◌%◌, ◌^◌, ◌<◌, ◌≤◌, Bool, true, false, ◌&&◌, eqb, List, [], ◌∷◌, ◌++◌, length, take, drop, sym, refl, ap, ◌∙◌, subst, ap₂, pow-suc, arith}
 use native.Mathlib.Nat.{div-div-eq-div-mul}
 use lib.Arith.{mod-mul}
-use Rattle.std.specs.List.{AllByRecursion as All}
+use Rattle.std.specs.List.{AllByRecursion}
 use Rattle.std.proofs.lemmas.Bool.{eqb-true, eq-eqb, and_parts, le-ltb, and_from}
 use Rattle.std.proofs.lemmas.List.{length-append, append_assoc, take_at, drop_at}
 use Rattle.kinds.specs.Kinds.{KeyKind, ValueKind}
@@ -29,7 +29,7 @@ pub with_first_gets : (at : ℕ) (r : Read) (f : Setting → ℕ → List ℕ �
 with_first_gets at r f x ys mid rest g h = ((h g.0).0, ap (λ q. with_first at q f) g.1 ∙ ap (prepend (x ∷ [])) (h g.0).1)
 
 pub each_gets : {A : Type 0} (f : A → ℕ → List ℕ → Read) (code : A → List ℕ) (part : A → List Setting) (xs : List A) →
-    All (λ x. (at : ℕ) (rest : List ℕ) → Gets (f x at (code x ++ rest)) (part x) rest) xs →
+    AllByRecursion (λ x. (at : ℕ) (rest : List ℕ) → Gets (f x at (code x ++ rest)) (part x) rest) xs →
     (at : ℕ) (rest : List ℕ) → Gets (each f xs at (flat code xs ++ rest)) (flat part xs) rest
 each_gets f code part [] a at rest = (at, refl)
 each_gets f code part (x ∷ xs) a at rest =
@@ -54,8 +54,8 @@ module _ (K : KeyKind) (V : ValueKind) where
         command_runs 0x45 (K.width + V.width) (entry_in K V ok at) at (s.key ++ s.value) rest long ∙ rw (front, back, r.0, r.1, o),
       )
 
-  pub rising_gets : (p : List ℕ) (m : Map) (ok : List ℕ → Bool) → Rises K m → All (Readable K V) m → All (λ s. leads K 0 p s.key ≡ true) m →
-      All (λ s. ok s.key ≡ true) m → (at : ℕ) (rest : List ℕ) → Gets (rising K V p (length m) ok at (flat entry m ++ rest)) m rest
+  pub rising_gets : (p : List ℕ) (m : Map) (ok : List ℕ → Bool) → Rises K m → AllByRecursion (Readable K V) m → AllByRecursion (λ s. leads K 0 p s.key ≡ true) m →
+      AllByRecursion (λ s. ok s.key ≡ true) m → (at : ℕ) (rest : List ℕ) → Gets (rising K V p (length m) ok at (flat entry m ++ rest)) m rest
   rising_gets p [] ok r a l o at rest = (at, refl)
   rising_gets p (s ∷ m) ok r a l o at rest =
       subst (λ l. Gets (rising K V p (suc (length m)) ok at l) (s ∷ m) rest) (sym (append_assoc (entry s) (flat entry m) rest))
@@ -65,8 +65,8 @@ module _ (K : KeyKind) (V : ValueKind) where
 
   -- a part at a prefix
   pub record Good (p : List ℕ) (m : Map) : Type 0 where
-    pub led : All (λ s. leads K 0 p s.key ≡ true) m
-    pub reads : All (Readable K V) m
+    pub led : AllByRecursion (λ s. leads K 0 p s.key ≡ true) m
+    pub reads : AllByRecursion (Readable K V) m
     pub rises : Rises K m
     pub uncrowded : Uncrowded K m
 

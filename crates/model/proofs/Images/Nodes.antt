@@ -2,7 +2,7 @@
 use Rattle.std.proofs.Common.{◌≡◌, ℕ, zero, suc, ◌+◌, ◌-◌, ◌*◌, ◌^◌, ◌<◌, ◌≤◌, Bool, true, false, cond, ◌&&◌, ◌||◌, eqb, ltb, leb, List, [], ◌∷◌, ◌++◌, length, take, drop, sym, refl, ap, ◌∙◌, subst, ap₂, inl, inr, arith}
 use lib.Dec.{eqb-suc-suc}
 use lib.Bits.{bit_and}
-use Rattle.std.specs.List.{AllByRecursion as All}
+use Rattle.std.specs.List.{AllByRecursion}
 use Rattle.std.proofs.lemmas.Bool.{eqb-true, eq-eqb, ne_eqb, ltb-true, and_parts, both_ways, lt-ltb, le-ltb, leb-true, or_cases}
 use Rattle.std.proofs.lemmas.List.{append-nil, length-append, append_assoc, length-take-le, take-append-drop, length-drop}
 use Rattle.byte_rows.specs.Rows.{byte_row, in_bytes, number}
@@ -26,7 +26,7 @@ alone_list [] e = absurd (omega arith)
 alone_list (b ∷ []) e = ap (λ n. n ∷ []) (omega arith)
 alone_list (b ∷ (c ∷ ws)) e = absurd (omega arith)
 
-unset : (n g : ℕ) → flag n g ≡ false → All (λ k. eqb g k ≡ false) (digits_in n)
+unset : (n g : ℕ) → flag n g ≡ false → AllByRecursion (λ k. eqb g k ≡ false) (digits_in n)
 unset n g e =
     all_to (λ k. flag n k ≡ true) (λ k. eqb g k ≡ false) (λ k t. ne_eqb g k (λ q. both_ways (flag n g) e (ap (flag n) q ∙ t))) (digits_in n) (filter_passes (flag n) sixteen)
 
@@ -43,8 +43,8 @@ enough_filled h as' bs u v t k l = go (eqb h 7) (eqb-suc-suc h 7) t
 module _ (K : KeyKind) (V : ValueKind) where
   -- settings of a part at a prefix, as they were read
   pub record WellRead (p : List ℕ) (xs : List Setting) : Type 0 where
-    pub led : All (λ s. leads K 0 p s.key ≡ true) xs
-    pub reads : All (Readable K V) xs
+    pub led : AllByRecursion (λ s. leads K 0 p s.key ≡ true) xs
+    pub reads : AllByRecursion (Readable K V) xs
     pub once : length (gather K xs) ≡ length xs
     pub uncrowded : Uncrowded K (gather K xs)
 
@@ -86,8 +86,8 @@ module _ (K : KeyKind) (V : ValueKind) where
       )
 
   -- the place of a setting that a longer prefix leads to
-  led_place : (p : List ℕ) (d g : ℕ) (xs : List Setting) → d ≡ length p → All (λ s. leads K 0 (p ++ (g ∷ [])) s.key ≡ true) xs →
-      All (λ s. (leads K 0 p s.key ≡ true) × (place K d s ≡ g)) xs
+  led_place : (p : List ℕ) (d g : ℕ) (xs : List Setting) → d ≡ length p → AllByRecursion (λ s. leads K 0 (p ++ (g ∷ [])) s.key ≡ true) xs →
+      AllByRecursion (λ s. (leads K 0 p s.key ≡ true) × (place K d s ≡ g)) xs
   led_place p d g xs e a =
       all_to _ _ (λ s l.
       let q = and_parts (leads K 0 p s.key) _ (sym (leads_push K 0 p g s.key) ∙ l) in
@@ -103,10 +103,10 @@ module _ (K : KeyKind) (V : ValueKind) where
   abbrev Child : List ℕ → ℕ → List Setting → Type 0
   Child p g l = WellRead (p ++ (g ∷ [])) l × (2 ≤ length l)
 
-  read_dig : (p : List ℕ) (d g : ℕ) (xs : List Setting) → d ≡ length p → WellRead (p ++ (g ∷ [])) xs → All (λ s. place K d s ≡ g) xs
+  read_dig : (p : List ℕ) (d g : ℕ) (xs : List Setting) → d ≡ length p → WellRead (p ++ (g ∷ [])) xs → AllByRecursion (λ s. place K d s ≡ g) xs
   read_dig p d g xs e s = all_to _ _ (λ t l. l.1) xs (led_place p d g xs e s.led)
 
-  read_all : (p : List ℕ) (d g : ℕ) (xs : List Setting) → d ≡ length p → WellRead (p ++ (g ∷ [])) xs → All (Stands p) xs
+  read_all : (p : List ℕ) (d g : ℕ) (xs : List Setting) → d ≡ length p → WellRead (p ++ (g ∷ [])) xs → AllByRecursion (Stands p) xs
   read_all p d g xs e s = all_both _ (Readable K V) (Stands p) (λ t l r. (l.0, r)) xs (led_place p d g xs e s.led) s.reads
 
   module _ (h d : ℕ) (p : List ℕ) (x y : ℕ) (ys cs : List Setting) (left mid rest : List ℕ)
@@ -117,7 +117,7 @@ module _ (K : KeyKind) (V : ValueKind) where
     abbrev part : ℕ → Map
     part g = at_digit K d (gather K (ys ++ cs)) g
 
-    stands : All (Stands p) (ys ++ cs)
+    stands : AllByRecursion (Stands p) (ys ++ cs)
     stands = all_join (Stands p) ys cs sy.all sc.all
 
     part_is : (g : ℕ) → part g ≡ gather K (falls (place K d) (ys ++ cs) g)

@@ -1,6 +1,6 @@
 -- The settings of a part in image order: gathered again, they are the part. Assumes nothing.
 use Rattle.std.proofs.Common.{◌≡◌, ℕ, zero, suc, ◌+◌, ◌-◌, ◌≤◌, true, false, cond, eqb, List, [], ◌∷◌, ◌++◌, length, sym, refl, ap, ◌∙◌, ap₂, arith}
-use Rattle.std.specs.List.{AllByRecursion as All}
+use Rattle.std.specs.List.{AllByRecursion}
 use Rattle.std.proofs.lemmas.Bool.{eqb-true, ne_eqb, lt-ltb}
 use Rattle.std.proofs.lemmas.List.{append-nil, length-append}
 use Rattle.byte_rows.specs.Rows.{in_bytes}
@@ -29,10 +29,10 @@ module _ (K : KeyKind) where
   abbrev pub place : ℕ → Setting → ℕ
   place d s = digit (K.hash s.key) d
 
-  pub all_placed : (d : ℕ) (m : Map) → All (λ s. Mem (place d s) sixteen) m
+  pub all_placed : (d : ℕ) (m : Map) → AllByRecursion (λ s. Mem (place d s) sixteen) m
   all_placed d m = all_from_mem _ m (λ s n. digit_in (K.hash s.key) d)
 
-  pub part_place : (d : ℕ) (m : Map) (g : ℕ) → All (λ s. place d s ≡ g) (at_digit K d m g)
+  pub part_place : (d : ℕ) (m : Map) (g : ℕ) → AllByRecursion (λ s. place d s ≡ g) (at_digit K d m g)
   part_place d m g =
       all_to (λ s. eqb (place d s) g ≡ true) (λ s. place d s ≡ g) (λ s e. eqb-true (place d s) g e) (at_digit K d m g) (filter_passes (λ s. eqb (place d s) g) m)
 
@@ -60,7 +60,7 @@ module _ (K : KeyKind) where
   order zero m = m
   order (suc h) m = flat (at_digit K (7 - h) m) (singles (7 - h) m) ++ flat (λ g. order h (at_digit K (7 - h) m g)) (branching K (7 - h) m)
 
-  pub order_all : (P : Setting → Type 0) (h : ℕ) (m : Map) → All P m → All P (order h m)
+  pub order_all : (P : Setting → Type 0) (h : ℕ) (m : Map) → AllByRecursion P m → AllByRecursion P (order h m)
   order_all P zero m a = a
   order_all P (suc h) m a =
       all_join P (flat (at_digit K (7 - h) m) (singles (7 - h) m)) _
@@ -102,11 +102,11 @@ module _ (K : KeyKind) where
     | more_settings z p q ↦ rw (p, q) e
   ]
 
-  pub gather_order : (h : ℕ) (m : Map) → Rises K m → All (KeyReads K) m → gather K (order h m) ≡ m
+  pub gather_order : (h : ℕ) (m : Map) → Rises K m → AllByRecursion (KeyReads K) m → gather K (order h m) ≡ m
   gather_order zero m r a = gather_rising K m r
   gather_order (suc h) m r a =
       let xs : List Setting = order (suc h) m in
-      let reads : All (KeyReads K) xs = order_all (KeyReads K) (suc h) m a in
+      let reads : AllByRecursion (KeyReads K) xs = order_all (KeyReads K) (suc h) m a in
       same_parts K (place (7 - h)) sixteen (gather K xs) m (gather_rises K xs reads) r (all_placed (7 - h) (gather K xs)) (all_placed (7 - h) m)
       (λ g n.
       let fallen : falls (place (7 - h)) xs g ≡ cond (one (at_digit K (7 - h) m g)) (at_digit K (7 - h) m g) [] ++ cond (many (at_digit K (7 - h) m g)) (order h (at_digit K (7 - h) m g)) [] =

@@ -1,6 +1,6 @@
 -- What must stand where a reading ends well. Assumes nothing.
 use Rattle.std.proofs.Common.{◌≡◌, ℕ, zero, suc, ◌+◌, Bool, true, false, cond, ◌&&◌, eqb, ltb, List, [], ◌∷◌, ◌++◌, length, take, drop, sym, refl, ap, ◌∙◌, subst, ap₂, arith}
-use Rattle.std.specs.List.{AllByRecursion as All}
+use Rattle.std.specs.List.{AllByRecursion}
 use Rattle.std.proofs.lemmas.Bool.{eqb-true, and_parts, and_from, ltb-false}
 use Rattle.std.proofs.lemmas.List.{append_assoc, length-take-le, take-append-drop}
 use Rattle.byte_rows.specs.Rows.{byte_row}
@@ -121,15 +121,15 @@ module _ (K : KeyKind) (V : ValueKind) where
   First ok [] = Unit {0}
   First ok (x ∷ xs) = ok x.key ≡ true
 
-  all_after : (s : Setting) (xs : List Setting) → First (λ k. K.before s.key k) xs → Rises K xs → All (After K s) xs
+  all_after : (s : Setting) (xs : List Setting) → First (λ k. K.before s.key k) xs → Rises K xs → AllByRecursion (After K s) xs
   all_after s [] f r = tt
   all_after s (t ∷ xs) f r = (f, all_to (After K t) (After K s) (λ u h. K.before_onward s.key t.key u.key f h) xs r.0)
 
   pub record Rose (p : List ℕ) (n : ℕ) (ok : List ℕ → Bool) (bs : List ℕ) (xs : List Setting) (rest : List ℕ) : Type 0 where
     pub counted : length xs ≡ n
     pub spelt : bs ≡ flat entry xs ++ rest
-    pub reads : All (Readable K V) xs
-    pub led : All (λ s. leads K 0 p s.key ≡ true) xs
+    pub reads : AllByRecursion (Readable K V) xs
+    pub led : AllByRecursion (λ s. leads K 0 p s.key ≡ true) xs
     pub rises : Rises K xs
     pub first : First ok xs
 

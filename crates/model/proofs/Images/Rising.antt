@@ -1,6 +1,6 @@
 -- Rising maps: what insertion and gathering keep, and that a rising map is its set of settings. Assumes nothing.
 use Rattle.std.proofs.Common.{◌≡◌, ℕ, Bool, true, false, cond, eqb, List, [], ◌∷◌, sym, refl, ap, ◌∙◌, subst, inl, inr, arith}
-use Rattle.std.specs.List.{AllByRecursion as All}
+use Rattle.std.specs.List.{AllByRecursion}
 use Rattle.std.proofs.lemmas.Bool.{eq-eqb, both_ways, cond_both}
 use Rattle.kinds.specs.Kinds.{KeyKind}
 use Rattle.model.specs.Maps.{Setting, Map, insert, Rises}
@@ -23,19 +23,19 @@ module _ (K : KeyKind) where
       cond_both (K.before s.key t.key) _ _ P f
       (λ e. cond_both (K.before t.key s.key) _ _ P (g e) (h e))
 
-  pub insert_all : (P : Setting → Type 0) (s : Setting) (m : Map) → P s → All P m → All P (insert K s m)
+  pub insert_all : (P : Setting → Type 0) (s : Setting) (m : Map) → P s → AllByRecursion P m → AllByRecursion P (insert K s m)
   insert_all P s [] h a = (h, tt)
-  insert_all P s (t ∷ m) h a = insert_cases (All P) s t m (λ e. (h, a)) (λ e f. (a.0, insert_all P s m h a.1)) (λ e f. (h, a.1))
+  insert_all P s (t ∷ m) h a = insert_cases (AllByRecursion P) s t m (λ e. (h, a)) (λ e f. (a.0, insert_all P s m h a.1)) (λ e f. (h, a.1))
 
-  pub insert_rises : (s : Setting) (m : Map) → KeyReads s → All KeyReads m → Rises K m → Rises K (insert K s m)
+  pub insert_rises : (s : Setting) (m : Map) → KeyReads s → AllByRecursion KeyReads m → Rises K m → Rises K (insert K s m)
   insert_rises s [] k a r = (tt, tt)
   insert_rises s (t ∷ m) k a r =
       insert_cases (Rises K) s t m
       (λ e. ((e, all_to (After t) (After s) (λ u f. K.before_onward s.key t.key u.key e f) m r.0), r))
       (λ e f. (insert_all (After t) s m f r.0, insert_rises s m k a.1 r.1))
-      (λ e f. (subst (λ x. All (λ u. K.before x u.key ≡ true) m) (sym (K.before_or_after s.key t.key k a.0 e f)) r.0, r.1))
+      (λ e f. (subst (λ x. AllByRecursion (λ u. K.before x u.key ≡ true) m) (sym (K.before_or_after s.key t.key k a.0 e f)) r.0, r.1))
 
-  pub insert_front : (s : Setting) (m : Map) → All (After s) m → insert K s m ≡ s ∷ m
+  pub insert_front : (s : Setting) (m : Map) → AllByRecursion (After s) m → insert K s m ≡ s ∷ m
   insert_front s [] a = refl
   insert_front s (t ∷ m) a = rw a.0
 
@@ -57,7 +57,7 @@ module _ (K : KeyKind) where
     replaced s t B false true z e f = let o : ◌≡◌ {A = ℕ} 0 1 = cc in absurd (omega arith)
     replaced s t B false false z e f = refl
 
-    pub filter_insert : (s : Setting) (m : Map) → KeyReads s → All KeyReads m → Rises K m →
+    pub filter_insert : (s : Setting) (m : Map) → KeyReads s → AllByRecursion KeyReads m → Rises K m →
         filter passes (insert K s m) ≡ cond (passes s) (insert K s (filter passes m)) (filter passes m)
     filter_insert s [] k a r = refl
     filter_insert s (t ∷ m) k a r =
@@ -67,11 +67,11 @@ module _ (K : KeyKind) where
         (λ e f. ap (λ l. cond (passes t) (t ∷ l) l) (filter_insert s m k a.1 r.1) ∙ further s t (filter passes m) (passes t) (passes s) e f)
         (λ e f. replaced s t (filter passes m) (passes t) (passes s) (ap q (K.before_or_after s.key t.key k a.0 e f)) e f)
 
-  pub gather_all : (P : Setting → Type 0) (xs : List Setting) → All P xs → All P (gather K xs)
+  pub gather_all : (P : Setting → Type 0) (xs : List Setting) → AllByRecursion P xs → AllByRecursion P (gather K xs)
   gather_all P [] a = tt
   gather_all P (x ∷ xs) a = insert_all P x (gather K xs) a.0 (gather_all P xs a.1)
 
-  pub gather_rises : (xs : List Setting) → All KeyReads xs → Rises K (gather K xs)
+  pub gather_rises : (xs : List Setting) → AllByRecursion KeyReads xs → Rises K (gather K xs)
   gather_rises [] a = tt
   gather_rises (x ∷ xs) a = insert_rises x (gather K xs) a.0 (gather_all KeyReads xs a.1) (gather_rises xs a.1)
 
@@ -79,7 +79,7 @@ module _ (K : KeyKind) where
   gather_rising [] r = refl
   gather_rising (x ∷ xs) r = rw (gather_rising xs r.1) (insert_front x xs r.0)
 
-  pub filter_gather : (q : List ℕ → Bool) (xs : List Setting) → All KeyReads xs → filter (λ s. q s.key) (gather K xs) ≡ gather K (filter (λ s. q s.key) xs)
+  pub filter_gather : (q : List ℕ → Bool) (xs : List Setting) → AllByRecursion KeyReads xs → filter (λ s. q s.key) (gather K xs) ≡ gather K (filter (λ s. q s.key) xs)
   filter_gather q [] a = refl
   filter_gather q (x ∷ xs) a =
       filter_insert q x (gather K xs) a.0 (gather_all KeyReads xs a.1) (gather_rises xs a.1)
@@ -124,7 +124,7 @@ module _ (K : KeyKind) where
       rw (first, same_members a b r.1 r'.1 on back)
 
   -- and so it is known by its parts
-  pub same_parts : (dig : Setting → ℕ) (gs : List ℕ) (a b : Map) → Rises K a → Rises K b → All (λ s. Mem (dig s) gs) a → All (λ s. Mem (dig s) gs) b →
+  pub same_parts : (dig : Setting → ℕ) (gs : List ℕ) (a b : Map) → Rises K a → Rises K b → AllByRecursion (λ s. Mem (dig s) gs) a → AllByRecursion (λ s. Mem (dig s) gs) b →
       ((g : ℕ) → Mem g gs → falls dig a g ≡ falls dig b g) → a ≡ b
   same_parts dig gs a b r r' d d' e =
       same_members a b r r'

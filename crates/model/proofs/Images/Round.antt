@@ -2,7 +2,7 @@
 use Rattle.std.proofs.Common.{◌≡◌, ℕ, zero, suc, ◌+◌, ◌-◌, ◌^◌, ◌<◌, ◌≤◌, Bool, true, false, cond, ◌&&◌, ◌||◌, eqb, ltb, leb, List, [], ◌∷◌, ◌++◌, length, take, drop, sym, refl, ap, ◌∙◌, subst, ap₂, arith}
 use lib.Dec.{eqb-suc-suc}
 use lib.Bits.{bit_and}
-use Rattle.std.specs.List.{AllByRecursion as All}
+use Rattle.std.specs.List.{AllByRecursion}
 use Rattle.std.proofs.lemmas.Bool.{eqb-true, eq-eqb, ltb-true, lt-ltb, le-ltb, and_from, le-leb, or_left, or_right}
 use Rattle.std.proofs.lemmas.List.{append-nil, length-append, append_assoc, nil_from_length}
 use Rattle.byte_rows.specs.Rows.{in_bytes, number}
@@ -47,7 +47,7 @@ one_not_many m e = le-ltb 1 (length m) (omega (arith, eqb-true (length m) 1 e))
 
 module _ (K : KeyKind) (V : ValueKind) where
   -- a part of one setting is its entry
-  single_gets : (ok : List ℕ → Bool) (m : Map) → length m ≡ 1 → All (Readable K V) m → All (λ s. ok s.key ≡ true) m → (at : ℕ) (rest : List ℕ) →
+  single_gets : (ok : List ℕ → Bool) (m : Map) → length m ≡ 1 → AllByRecursion (Readable K V) m → AllByRecursion (λ s. ok s.key ≡ true) m → (at : ℕ) (rest : List ℕ) →
       Gets (read_entry K V ok at (flat entry m ++ rest)) m rest
   single_gets ok [] e r o at rest = absurd (omega arith)
   single_gets ok (s ∷ []) e r o at rest =

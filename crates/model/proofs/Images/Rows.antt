@@ -1,6 +1,6 @@
 -- The image of a lawful map is a row of bytes. Assumes nothing.
 use Rattle.std.proofs.Common.{◌≡◌, ℕ, zero, suc, ◌+◌, ◌-◌, true, ltb, List, [], ◌∷◌, ◌++◌, length, refl, ap, ◌∙◌, arith}
-use Rattle.std.specs.List.{AllByRecursion as All}
+use Rattle.std.specs.List.{AllByRecursion}
 use Rattle.std.proofs.lemmas.Bool.{and_parts, lt-ltb, and_from}
 use Rattle.std.proofs.lemmas.List.{length-append}
 use Rattle.byte_rows.specs.Rows.{byte_row, in_bytes}
@@ -20,12 +20,12 @@ row_append (x ∷ xs) ys a b =
     let p = and_parts (ltb x 256) (byte_row xs) a in
     and_from _ _ p.0 (row_append xs ys p.1 b)
 
-pub row_flat : {A : Type 0} (f : A → List ℕ) (xs : List A) → All (λ x. byte_row (f x) ≡ true) xs → byte_row (flat f xs) ≡ true
+pub row_flat : {A : Type 0} (f : A → List ℕ) (xs : List A) → AllByRecursion (λ x. byte_row (f x) ≡ true) xs → byte_row (flat f xs) ≡ true
 row_flat f [] a = refl
 row_flat f (x ∷ xs) a = row_append (f x) (flat f xs) a.0 (row_flat f xs a.1)
 
 module _ (K : KeyKind) (V : ValueKind) where
-  row_entries : (m : Map) → All (Readable K V) m → byte_row (flat entry m) ≡ true
+  row_entries : (m : Map) → AllByRecursion (Readable K V) m → byte_row (flat entry m) ≡ true
   row_entries m a = row_flat entry m (all_to (Readable K V) _ (λ s r. row_append s.key s.value (K.reads_bytes s.key r.0) (V.reads_bytes s.value r.1)) m a)
 
   row_node : (h : ℕ) (p : List ℕ) (m : Map) → length p + h ≡ 8 → Good K V p m → byte_row (node K h m) ≡ true

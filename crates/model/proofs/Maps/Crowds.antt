@@ -1,6 +1,6 @@
 -- Which maps are uncrowded: those that are not judged crowded, and what a remove leaves of one. Assumes nothing.
 use Rattle.std.proofs.Common.{◌≡◌, ℕ, ◌≤◌, Bool, true, false, cond, not, eqb, ltb, ◌⊎◌, List, [], ◌∷◌, length, None, sym, refl, ◌∙◌, inl, inr, arith}
-use Rattle.std.specs.List.{AllByRecursion as All}
+use Rattle.std.specs.List.{AllByRecursion}
 use Rattle.std.proofs.lemmas.Bool.{or_parts, eqb-true, ltb-false}
 use Rattle.byte_rows.specs.Rows.{same}
 use Rattle.byte_rows.proofs.Orders.{same_tells}
@@ -13,11 +13,11 @@ use Rattle.model.proofs.Maps.Edits.{sound_remove, look_remove}
 -- ---- filters
 
 module _ {A : Type 0} (p : A → Bool) where
-  pub all_filter : (P : A → Type 0) (xs : List A) → All P xs → All P (filter p xs)
+  pub all_filter : (P : A → Type 0) (xs : List A) → AllByRecursion P xs → AllByRecursion P (filter p xs)
   all_filter P [] h = tt
   all_filter P (x ∷ xs) h = go (p x) (all_filter P xs h.1)
     where
-      go : (b : Bool) → All P (filter p xs) → All P (cond b (x ∷ filter p xs) (filter p xs))
+      go : (b : Bool) → AllByRecursion P (filter p xs) → AllByRecursion P (cond b (x ∷ filter p xs) (filter p xs))
       go true i = (h.0, i)
       go false i = i
 

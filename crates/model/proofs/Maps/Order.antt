@@ -1,6 +1,6 @@
 -- Maps in rising key order: what keeps the order, what a look-up finds, and that look-ups say all. Assumes nothing.
 use Rattle.std.proofs.Common.{◌≡◌, ℕ, Bool, true, false, cond, ◌⊎◌, List, [], ◌∷◌, Some, None, Option, refl, ap₂, inl, inr, arith}
-use Rattle.std.specs.List.{AllByRecursion as All}
+use Rattle.std.specs.List.{AllByRecursion}
 use Rattle.std.proofs.lemmas.Bool.{cases_Bool}
 use Rattle.std.proofs.ByRecursion.{All-weaker}
 use Rattle.byte_rows.specs.Rows.{same}
@@ -11,7 +11,7 @@ use Rattle.model.proofs.Maps.Found.{same_self}
 
 -- a key before every key of a map
 abbrev pub Ahead : KeyKind → List ℕ → Map → Type 0
-Ahead K k m = All (λ t. K.before k t.key ≡ true) m
+Ahead K k m = AllByRecursion (λ t. K.before k t.key ≡ true) m
 
 -- what was found is readable
 abbrev pub Reads : ValueKind → Option (List ℕ) → Type 0
@@ -47,16 +47,16 @@ module _ (K : KeyKind) (V : ValueKind) where
       go false true r = (a.0, r)
       go false false r = (h, a.1)
 
-  pub readable_insert : (s : Setting) (m : Map) → Readable K V s → All (Readable K V) m → All (Readable K V) (insert K s m)
+  pub readable_insert : (s : Setting) (m : Map) → Readable K V s → AllByRecursion (Readable K V) m → AllByRecursion (Readable K V) (insert K s m)
   readable_insert s [] f r = (f, tt)
   readable_insert s (t ∷ m) f r = go (K.before s.key t.key) (K.before t.key s.key) (readable_insert s m f r.1)
     where
-      go : (x y : Bool) → All (Readable K V) (insert K s m) → All (Readable K V) (cond x (s ∷ (t ∷ m)) (cond y (t ∷ insert K s m) (s ∷ m)))
+      go : (x y : Bool) → AllByRecursion (Readable K V) (insert K s m) → AllByRecursion (Readable K V) (cond x (s ∷ (t ∷ m)) (cond y (t ∷ insert K s m) (s ∷ m)))
       go true y i = (f, r)
       go false true i = (r.0, i)
       go false false i = (f, r.1)
 
-  pub rising_insert : (s : Setting) (m : Map) → Readable K V s → All (Readable K V) m → Rises K m → Rises K (insert K s m)
+  pub rising_insert : (s : Setting) (m : Map) → Readable K V s → AllByRecursion (Readable K V) m → Rises K m → Rises K (insert K s m)
   rising_insert s [] f r u = (tt, tt)
   rising_insert s (t ∷ m) f r u = go (order s.key t.key f.0 r.0.0) (rising_insert s m f r.1 u.1)
     where
@@ -66,7 +66,7 @@ module _ (K : KeyKind) (V : ValueKind) where
       go (inr (e, inl h)) i = rw (e, h) (ahead_insert t.key s m h u.0, i)
       go (inr (e, inr (h, q))) i = rw (e, h, q) (u.0, u.1)
 
-  pub look_insert : (s : Setting) (m : Map) (k : List ℕ) → Readable K V s → All (Readable K V) m → look (insert K s m) k ≡ cond (same s.key k) (Some s.value) (look m k)
+  pub look_insert : (s : Setting) (m : Map) (k : List ℕ) → Readable K V s → AllByRecursion (Readable K V) m → look (insert K s m) k ≡ cond (same s.key k) (Some s.value) (look m k)
   look_insert s [] k f r = refl
   look_insert s (t ∷ m) k f r = go (order s.key t.key f.0 r.0.0) (look_insert s m k f r.1)
     where
@@ -89,7 +89,7 @@ module _ (K : KeyKind) (V : ValueKind) where
   look_rest : (s : Setting) (m : Map) (k : List ℕ) → Ahead K s.key m → look m k ≡ cond (same s.key k) None (look (s ∷ m) k)
   look_rest s m k a = let i = look_ahead s.key m a in grind (arith, same_tells)
 
-  pub look_reads : (m : Map) (k : List ℕ) → All (Readable K V) m → Reads V (look m k)
+  pub look_reads : (m : Map) (k : List ℕ) → AllByRecursion (Readable K V) m → Reads V (look m k)
   look_reads [] k r = tt
   look_reads (s ∷ m) k r = go (same s.key k) (look_reads m k r.1)
     where
@@ -98,7 +98,7 @@ module _ (K : KeyKind) (V : ValueKind) where
       go false i = i
 
   -- maps in order with the same look-ups are one
-  pub maps_equal : (a b : Map) → Rises K a → Rises K b → All (Readable K V) a → All (Readable K V) b → ((k : List ℕ) → look a k ≡ look b k) → a ≡ b
+  pub maps_equal : (a b : Map) → Rises K a → Rises K b → AllByRecursion (Readable K V) a → AllByRecursion (Readable K V) b → ((k : List ℕ) → look a k ≡ look b k) → a ≡ b
   maps_equal [] [] ua ub ra rb h = refl
   maps_equal [] (t ∷ b) ua ub ra rb h = let e = h t.key in let f = look_first t b in cc
   maps_equal (s ∷ a) [] ua ub ra rb h = let e = h s.key in let f = look_first s a in cc

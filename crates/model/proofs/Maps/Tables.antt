@@ -1,6 +1,6 @@
 -- The table of what a function finds at given keys. Assumes nothing.
 use Rattle.std.proofs.Common.{◌≡◌, ℕ, Bool, true, false, cond, ◌||◌, List, [], ◌∷◌, ◌++◌, Some, None, Option, refl, arith}
-use Rattle.std.specs.List.{AllByRecursion as All}
+use Rattle.std.specs.List.{AllByRecursion}
 use Rattle.byte_rows.specs.Rows.{same}
 use Rattle.byte_rows.proofs.Orders.{same_tells}
 use Rattle.kinds.specs.Kinds.{KeyKind, ValueKind}
@@ -9,7 +9,7 @@ use Rattle.model.proofs.Maps.Order.{Reads, readable_insert, rising_insert, look_
 
 -- a row of readable keys
 abbrev pub KeyRows : KeyKind → List (List ℕ) → Type 0
-KeyRows K ks = All (λ k. K.readable k ≡ true) ks
+KeyRows K ks = AllByRecursion (λ k. K.readable k ≡ true) ks
 
 -- a row of keys has a key
 abbrev pub has : List (List ℕ) → List ℕ → Bool
@@ -29,16 +29,16 @@ look_unlisted (s ∷ m) k h = go (same s.key k) h (look_unlisted m k)
     go false e i = i e
 
 module _ (K : KeyKind) (V : ValueKind) where
-  pub keys_readable : (m : Map) → All (Readable K V) m → KeyRows K (keys m)
+  pub keys_readable : (m : Map) → AllByRecursion (Readable K V) m → KeyRows K (keys m)
   keys_readable [] r = tt
   keys_readable (s ∷ m) r = (r.0.0, keys_readable m r.1)
 
   module _ (f : List ℕ → Option (List ℕ)) (reads : (k : List ℕ) → Reads V (f k)) where
-    pub readable_tabulate : (ks : List (List ℕ)) → KeyRows K ks → All (Readable K V) (tabulate K ks f)
+    pub readable_tabulate : (ks : List (List ℕ)) → KeyRows K ks → AllByRecursion (Readable K V) (tabulate K ks f)
     readable_tabulate [] r = tt
     readable_tabulate (k ∷ ks) r = go (f k) (reads k) (readable_tabulate ks r.1)
       where
-        go : (o : Option (List ℕ)) → Reads V o → All (Readable K V) (tabulate K ks f) → All (Readable K V) (insert_found K k o (tabulate K ks f))
+        go : (o : Option (List ℕ)) → Reads V o → AllByRecursion (Readable K V) (tabulate K ks f) → AllByRecursion (Readable K V) (insert_found K k o (tabulate K ks f))
         go (Some v) p i = readable_insert K V (record { key = k; value = v }) (tabulate K ks f) (r.0, p) i
         go None p i = i
 

@@ -2,7 +2,7 @@
 use Rattle.std.proofs.Common.{◌≡◌, suc, ◌≤◌, Bool, true, false, cond, ◌⊎◌, List, [], ◌∷◌, ◌++◌, map, length, sym, refl, ap, ◌∙◌, subst, inl, inr, arith}
 use mathlib.Core.List.Memᴰ
 use mathlib.Core.List.{Memᴰ}
-use Rattle.std.specs.List.{AllByRecursion as All}
+use Rattle.std.specs.List.{AllByRecursion}
 use Rattle.std.proofs.lemmas.Bool.{cond_both, both_ways}
 use Rattle.model.specs.Tries.{filter}
 use Rattle.model.specs.Runs.{Distinct, ListsOnce}
@@ -13,30 +13,30 @@ Mem x xs = Memᴰ x xs
 
 -- ---- what holds of each
 
-pub all_mem : {A : Type 0} (P : A → Type 0) (xs : List A) (x : A) → All P xs → Mem x xs → P x
+pub all_mem : {A : Type 0} (P : A → Type 0) (xs : List A) (x : A) → AllByRecursion P xs → Mem x xs → P x
 all_mem P [] x a m = absurd (Memᴰ.not-nil m)
 all_mem P (y ∷ ys) x a m = elim (Memᴰ.cases_cons m) [ inl e ↦ subst P (sym e) a.0 | inr n ↦ all_mem P ys x a.1 n ]
 
-pub all_from_mem : {A : Type 0} (P : A → Type 0) (xs : List A) → ((x : A) → Mem x xs → P x) → All P xs
+pub all_from_mem : {A : Type 0} (P : A → Type 0) (xs : List A) → ((x : A) → Mem x xs → P x) → AllByRecursion P xs
 all_from_mem P [] f = tt
 all_from_mem P (x ∷ xs) f = (f x (Memᴰ.head refl), all_from_mem P xs (λ y m. f y (Memᴰ.tail m)))
 
-pub all_to : {A : Type 0} (P Q : A → Type 0) → ((x : A) → P x → Q x) → (xs : List A) → All P xs → All Q xs
+pub all_to : {A : Type 0} (P Q : A → Type 0) → ((x : A) → P x → Q x) → (xs : List A) → AllByRecursion P xs → AllByRecursion Q xs
 all_to P Q f [] a = tt
 all_to P Q f (x ∷ xs) a = (f x a.0, all_to P Q f xs a.1)
 
-pub all_join : {A : Type 0} (P : A → Type 0) (xs ys : List A) → All P xs → All P ys → All P (xs ++ ys)
+pub all_join : {A : Type 0} (P : A → Type 0) (xs ys : List A) → AllByRecursion P xs → AllByRecursion P ys → AllByRecursion P (xs ++ ys)
 all_join P [] ys a b = b
 all_join P (x ∷ xs) ys a b = (a.0, all_join P xs ys a.1 b)
 
-pub all_map : {A B : Type 0} (P : A → Type 0) (Q : B → Type 0) (f : A → B) → ((x : A) → P x → Q (f x)) → (xs : List A) → All P xs → All Q (map f xs)
+pub all_map : {A B : Type 0} (P : A → Type 0) (Q : B → Type 0) (f : A → B) → ((x : A) → P x → Q (f x)) → (xs : List A) → AllByRecursion P xs → AllByRecursion Q (map f xs)
 all_map P Q f h [] a = tt
 all_map P Q f h (x ∷ xs) a = (h x a.0, all_map P Q f h xs a.1)
 
-pub all_filter : {A : Type 0} (P : A → Type 0) (p : A → Bool) (xs : List A) → All P xs → All P (filter p xs)
+pub all_filter : {A : Type 0} (P : A → Type 0) (p : A → Bool) (xs : List A) → AllByRecursion P xs → AllByRecursion P (filter p xs)
 all_filter P p [] a = tt
 all_filter P p (x ∷ xs) a =
-    elim (p x) as (λ b. All P (cond b (x ∷ filter p xs) (filter p xs))) [
+    elim (p x) as (λ b. AllByRecursion P (cond b (x ∷ filter p xs) (filter p xs))) [
       | true ↦ (a.0, all_filter P p xs a.1)
       | false ↦ all_filter P p xs a.1
     ]
@@ -58,7 +58,7 @@ mem_of_filter {A} p (y ∷ ys) x m = go (p y) refl m (mem_of_filter p ys x)
     go true e n f = elim (Memᴰ.cases_cons n) [ inl q ↦ (Memᴰ.head q, ap p q ∙ e) | inr o ↦ (Memᴰ.tail (f o).0, (f o).1) ]
     go false e n f = (Memᴰ.tail (f n).0, (f n).1)
 
-pub filter_all : {A : Type 0} (p : A → Bool) (xs : List A) → All (λ x. p x ≡ true) xs → filter p xs ≡ xs
+pub filter_all : {A : Type 0} (p : A → Bool) (xs : List A) → AllByRecursion (λ x. p x ≡ true) xs → filter p xs ≡ xs
 filter_all p [] a = refl
 filter_all p (x ∷ xs) a = rw (a.0, filter_all p xs a.1)
 

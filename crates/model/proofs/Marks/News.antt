@@ -2,7 +2,7 @@
 use Rattle.std.proofs.Common.{◌≡◌, ℕ, ◌+◌, ◌≤◌, Bool, true, false, cond, eqb, List, [], ◌∷◌, ◌++◌, map, length, is_some, Some, None, Option, sym, refl, ap, subst, inl, inr, append_assoc, arith}
 use mathlib.Core.List.Memᴰ
 use mathlib.Core.List.{Memᴰ}
-use Rattle.std.specs.List.{AllByRecursion as All}
+use Rattle.std.specs.List.{AllByRecursion}
 use Rattle.std.proofs.lemmas.Bool.{cond_both, both_ways, false≢true, and_from, eq-eqb, or_left, or_right}
 use Rattle.byte_rows.specs.Rows.{same}
 use Rattle.byte_rows.proofs.Orders.{same_decides}
@@ -76,7 +76,7 @@ module _ (K : KeyKind) (n : ℕ) (old : List Marked) where
 
 -- for any row that has all the sources' marked nodes
 pub shared_new : (K : KeyKind) (n : ℕ) (sources : List Part) (m : Map) (old : List Marked) →
-    All (λ a. (x : Marked) → Memᴰ x a.nodes → in_row x old ≡ true) sources →
+    AllByRecursion (λ a. (x : Marked) → Memᴰ x a.nodes → in_row x old ≡ true) sources →
     distinct ((shared K n sources m).nodes ++ old) ≤ distinct old + (shared K n sources m).new_nodes
 shared_new K n sources m old a = shared_has K n _ _ (nodes_pieces K n old) sources m a old (λ x e. e)
 
@@ -103,7 +103,7 @@ module _ (K : KeyKind) (n : ℕ) (old : List Marked) where
   abbrev Had : Part → Type 0
   Had a = ((x : Marked) → Mem x a.entries → in_row x old ≡ true) × ((k : List ℕ) → is_some (look a.settings k) ≡ true → Mem k (map (λ x. x.what) a.entries))
 
-  entry_adds : (sources : List Part) (s : Setting) → All Had sources → Adds old (entry_from n sources s).entries (entry_from n sources s).new_entries
+  entry_adds : (sources : List Part) (s : Setting) → AllByRecursion Had sources → Adds old (entry_from n sources s).entries (entry_from n sources s).new_entries
   entry_adds [] s h = adds_one old (record { what = s.key; mark = n })
   entry_adds (a ∷ sources) s h =
       cond_both (same_found (look a.settings s.key) (Some s.value)) _ (entry_from n sources s) (λ (x : Shared). Adds old x.entries x.new_entries)
@@ -132,7 +132,7 @@ module _ (K : KeyKind) (n : ℕ) (old : List Marked) where
 
 -- for any row that has all the sources' marked entries, where these have every key that look finds in their source
 pub shared_new_entries : (K : KeyKind) (n : ℕ) (sources : List Part) (m : Map) (old : List Marked) →
-    All (λ a. ((x : Marked) → Memᴰ x a.entries → in_row x old ≡ true) ×
+    AllByRecursion (λ a. ((x : Marked) → Memᴰ x a.entries → in_row x old ≡ true) ×
     ((k : List ℕ) → is_some (look a.settings k) ≡ true → Memᴰ k (map (λ x. x.what) a.entries))) sources →
     distinct ((shared K n sources m).entries ++ old) ≤ distinct old + (shared K n sources m).new_entries
 shared_new_entries K n sources m old a = shared_has K n _ _ (entries_pieces K n old) sources m a old (λ x e. e)

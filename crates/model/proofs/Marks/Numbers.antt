@@ -1,6 +1,6 @@
 -- What holds of a call's result piece by piece, and its marks. Assumes nothing.
 use Rattle.std.proofs.Common.{ℕ, zero, suc, ◌≤◌, List, [], ◌∷◌, ◌++◌, map, length, Some, Option, arith}
-use Rattle.std.specs.List.{AllByRecursion as All}
+use Rattle.std.specs.List.{AllByRecursion}
 use Rattle.std.proofs.lemmas.Bool.{cond_both}
 use Rattle.byte_rows.specs.Rows.{same}
 use Rattle.kinds.specs.Kinds.{KeyKind}
@@ -16,7 +16,7 @@ pub record Pieces (K : KeyKind) (n : ℕ) (Of : Part → Type 0) (P : Shared →
   pub none : P no_share
   pub both : (a b : Shared) → P a → P b → P (a ⊕ b)
   pub node : (p : List ℕ) → P (new_node n p)
-  pub entry : (sources : List Part) (s : Setting) → All Of sources → P (entry_from n sources s)
+  pub entry : (sources : List Part) (s : Setting) → AllByRecursion Of sources → P (entry_from n sources s)
   pub kept : (a : Part) → Of a → P (kept_or (Some a) no_share)
   pub on : (p : List ℕ) (g : ℕ) (a : Part) → Of a → Of (below K p g a)
 
@@ -25,12 +25,12 @@ module _ (K : KeyKind) (n : ℕ) (Of : Part → Type 0) (P : Shared → Type 0) 
   sum_has f [] h = w.none
   sum_has f (x ∷ xs) h = w.both (f x) (sum f xs) (h x) (sum_has f xs h)
 
-  kept_has : (sources : List Part) (m : Map) (s : Shared) → All Of sources → P s → P (kept_or (first_same sources m) s)
+  kept_has : (sources : List Part) (m : Map) (s : Shared) → AllByRecursion Of sources → P s → P (kept_or (first_same sources m) s)
   kept_has [] m s a h = h
   kept_has (b ∷ sources) m s a h =
       cond_both (same_map b.settings m) (Some b) (first_same sources m) (λ (o : Option Part). P (kept_or o s)) (λ e. w.kept b a.0) (λ e. kept_has sources m s a.1 h)
 
-  share_has : (h : ℕ) (p : List ℕ) (sources : List Part) (m : Map) → All Of sources → P (share K n h p sources m)
+  share_has : (h : ℕ) (p : List ℕ) (sources : List Part) (m : Map) → AllByRecursion Of sources → P (share K n h p sources m)
   share_has zero p sources m a =
       kept_has sources m (new_node n p ⊕ sum (entry_from n sources) m) a
       (w.both (new_node n p) (sum (entry_from n sources) m) (w.node p) (sum_has (entry_from n sources) m (λ s. w.entry sources s a)))
@@ -43,7 +43,7 @@ module _ (K : KeyKind) (n : ℕ) (Of : Part → Type 0) (P : Shared → Type 0) 
       (sum_has (entry_from n sources) es (λ s. w.entry sources s a))
       (sum_has on (branching K (length p) m) (λ g. share_has h (p ++ (g ∷ [])) (map (below K p g) sources) (at_digit K (length p) m g) (all_map Of Of (below K p g) (w.on p g) sources a)))))
 
-  pub shared_has : (sources : List Part) (m : Map) → All Of sources → P (shared K n sources m)
+  pub shared_has : (sources : List Part) (m : Map) → AllByRecursion Of sources → P (shared K n sources m)
   shared_has sources [] a = w.none
   shared_has sources (s ∷ m) a = share_has 8 [] sources (s ∷ m) a
 
@@ -52,13 +52,13 @@ module _ (K : KeyKind) (n : ℕ) (Of : Part → Type 0) (P : Shared → Type 0) 
 module _ (K : KeyKind) (n : ℕ) where
   -- marks of at most n
   abbrev UpTo : List Marked → Type 0
-  UpTo l = All (λ x. x.mark ≤ n) l
+  UpTo l = AllByRecursion (λ x. x.mark ≤ n) l
 
   mark_of_up_to : (l : List Marked) (k : List ℕ) → UpTo l → mark_of l k ≤ n
   mark_of_up_to [] k a = omega arith
   mark_of_up_to (x ∷ l) k a = cond_both (same x.what k) x.mark (mark_of l k) (λ y. y ≤ n) (λ e. a.0) (λ e. mark_of_up_to l k a.1)
 
-  entry_up_to : (sources : List Part) (s : Setting) → All (λ a. UpTo a.nodes × UpTo a.entries) sources →
+  entry_up_to : (sources : List Part) (s : Setting) → AllByRecursion (λ a. UpTo a.nodes × UpTo a.entries) sources →
       UpTo (entry_from n sources s).nodes × UpTo (entry_from n sources s).entries
   entry_up_to [] s a = (tt, (omega arith, tt))
   entry_up_to (b ∷ sources) s a =
@@ -77,6 +77,6 @@ module _ (K : KeyKind) (n : ℕ) where
 
 -- every mark of a result is the call's number, 0, or a source's mark, so at most n where the sources' are
 pub shared_marks : (K : KeyKind) (n : ℕ) (sources : List Part) (m : Map) →
-    All (λ a. All (λ x. x.mark ≤ n) a.nodes × All (λ x. x.mark ≤ n) a.entries) sources →
-    All (λ x. x.mark ≤ n) (shared K n sources m).nodes × All (λ x. x.mark ≤ n) (shared K n sources m).entries
+    AllByRecursion (λ a. AllByRecursion (λ x. x.mark ≤ n) a.nodes × AllByRecursion (λ x. x.mark ≤ n) a.entries) sources →
+    AllByRecursion (λ x. x.mark ≤ n) (shared K n sources m).nodes × AllByRecursion (λ x. x.mark ≤ n) (shared K n sources m).entries
 shared_marks K n sources m a = shared_has K n _ _ (marks_pieces K n) sources m a

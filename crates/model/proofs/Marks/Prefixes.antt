@@ -1,7 +1,7 @@
 -- Prefixes: what begins with what, which keys lead where, and the nodes below a digit. Assumes nothing.
 use Rattle.std.proofs.Common.{◌≡◌, ℕ, suc, ◌+◌, ◌<◌, ◌≤◌, true, ◌&&◌, eqb, leb, ◌⊎◌, List, [], ◌∷◌, ◌++◌, length, sym, refl, ap, ◌∙◌, subst, inl, inr, arith, length-append}
 use mathlib.Core.List.Memᴰ
-use Rattle.std.specs.List.{AllByRecursion as All}
+use Rattle.std.specs.List.{AllByRecursion}
 use Rattle.std.proofs.lemmas.Bool.{false≢true, and_parts, and_from, eqb-true, eq-eqb, cases_eq, leb-true, le-leb, ltb-true, lt-ltb}
 use Rattle.kinds.specs.Kinds.{KeyKind}
 use Rattle.model.specs.Maps.{Map}
@@ -112,7 +112,7 @@ module _ (K : KeyKind) where
   -- ---- parts below a digit
 
   -- the settings of a part at p that go on by g lead to p and g
-  pub led_on : (m : Map) (p : List ℕ) (g : ℕ) → All (λ s. leads K 0 p s.key ≡ true) m → All (λ s. leads K 0 (p ++ (g ∷ [])) s.key ≡ true) (at_digit K (length p) m g)
+  pub led_on : (m : Map) (p : List ℕ) (g : ℕ) → AllByRecursion (λ s. leads K 0 p s.key ≡ true) m → AllByRecursion (λ s. leads K 0 (p ++ (g ∷ [])) s.key ≡ true) (at_digit K (length p) m g)
   led_on m p g a =
       all_from_mem _ (at_digit K (length p) m g) (λ s n.
       let r = mem_of_filter (λ t. eqb (digit (K.hash t.key) (length p)) g) m s n in
@@ -134,7 +134,7 @@ module _ (K : KeyKind) where
   node_short m (h ∷ q) e = leb-true (length (h ∷ q)) 8 (and_parts (leb (length (h ∷ q)) 8) (many (part K m (h ∷ q))) e).0
 
   -- where two or more settings lead there is a node
-  pub node_there : (m : Map) (q : List ℕ) → 1 ≤ length q → length q ≤ 8 → All (λ s. leads K 0 q s.key ≡ true) m → many m ≡ true → has_node K m q ≡ true
+  pub node_there : (m : Map) (q : List ℕ) → 1 ≤ length q → length q ≤ 8 → AllByRecursion (λ s. leads K 0 q s.key ≡ true) m → many m ≡ true → has_node K m q ≡ true
   node_there m [] l u a e = absurd (omega arith)
   node_there m (h ∷ q) l u a e =
       and_from (leb (length (h ∷ q)) 8) (many (part K m (h ∷ q))) (le-leb _ 8 u) (rw (filter_all (λ s. leads K 0 (h ∷ q) s.key) m a) e)

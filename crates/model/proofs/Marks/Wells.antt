@@ -1,7 +1,7 @@
 -- The marked nodes of a call's result are those of its map's trie, and its marked entries its keys. Assumes nothing.
 use Rattle.std.proofs.Common.{◌≡◌, ℕ, zero, suc, ◌+◌, true, false, cond, eqb, leb, ◌⊎◌, List, [], ◌∷◌, ◌++◌, map, length, is_some, Some, Option, sym, refl, ap, ◌∙◌, subst, ap₂, inl, inr, arith}
 use mathlib.Core.List.Memᴰ
-use Rattle.std.specs.List.{AllByRecursion as All}
+use Rattle.std.specs.List.{AllByRecursion}
 use Rattle.std.proofs.lemmas.Bool.{cond_both, false≢true, and_parts, eqb-true, eq-eqb, ltb-true, lt-ltb}
 use Rattle.kinds.specs.Kinds.{KeyKind}
 use Rattle.model.specs.Maps.{Setting, Map, keys, look, same_found, same_map, Rises}
@@ -159,7 +159,7 @@ module _ (K : KeyKind) where
   -- ---- a result
 
   -- what a source has whole, or something else that is well
-  kept_well : (p : List ℕ) (sources : List Part) (m : Map) (s : Shared) → All (WellPart p) sources → Well p m s.nodes s.entries →
+  kept_well : (p : List ℕ) (sources : List Part) (m : Map) (s : Shared) → AllByRecursion (WellPart p) sources → Well p m s.nodes s.entries →
       Well p m (kept_or (first_same sources m) s).nodes (kept_or (first_same sources m) s).entries
   kept_well p [] m s a w = w
   kept_well p (b ∷ sources) m s a w =
@@ -167,8 +167,8 @@ module _ (K : KeyKind) where
       (λ e. subst (λ x. Well p x b.nodes b.entries) (same_map_true b.settings m e) a.0) (λ e. kept_well p sources m s a.1 w)
 
   -- the marks of a result's part at a prefix with h levels below it
-  share_well : (n h : ℕ) (p : List ℕ) (sources : List Part) (m : Map) → h + length p ≡ 8 → has_node K m p ≡ true → All (λ s. leads K 0 p s.key ≡ true) m → Rises K m →
-      All (WellPart p) sources → Well p m (share K n h p sources m).nodes (share K n h p sources m).entries
+  share_well : (n h : ℕ) (p : List ℕ) (sources : List Part) (m : Map) → h + length p ≡ 8 → has_node K m p ≡ true → AllByRecursion (λ s. leads K 0 p s.key ≡ true) m → Rises K m →
+      AllByRecursion (WellPart p) sources → Well p m (share K n h p sources m).nodes (share K n h p sources m).entries
   share_well n zero p sources m depth top led rises a =
       let e = entries_are n sources m in
       kept_well p sources m (new_node n p ⊕ sum (entry_from n sources) m) a (
@@ -227,7 +227,7 @@ module _ (K : KeyKind) where
       no_node (h ∷ q) e = false≢true (and_parts (leb (length (h ∷ q)) 8) false e).1
 
   -- it suffices that the map rises and that the sources' marks are whole
-  pub result_well : (n : ℕ) (sources : List Part) (m : Map) → Rises K m → All (MarkedWell K) sources →
+  pub result_well : (n : ℕ) (sources : List Part) (m : Map) → Rises K m → AllByRecursion (MarkedWell K) sources →
       MarkedWell K (record { settings = m; nodes = (shared K n sources m).nodes; entries = (shared K n sources m).entries })
   result_well n sources [] rises a = of_well (record { settings = []; nodes = []; entries = [] }) none_well
   result_well n sources (s ∷ m) rises a =

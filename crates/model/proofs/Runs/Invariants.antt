@@ -1,7 +1,7 @@
 -- What every call keeps holds of every account that is reached: each live map is sound and uncrowded. Assumes nothing.
 use Rattle.std.proofs.Common.{◌≡◌, ℕ, zero, suc, ◌+◌, ◌≤◌, List, [], ◌∷◌, ◌++◌, replicate, Some, None, Option, refl, ap, ◌∙◌, arith}
 use mathlib.Core.List.{Memᴰ}
-use Rattle.std.specs.List.{AllByRecursion as All}
+use Rattle.std.specs.List.{AllByRecursion}
 use Rattle.std.proofs.ByRecursion.{All-set, All-weaker}
 use Rattle.kinds.specs.Kinds.{KeyKind, ValueKind}
 use Rattle.model.specs.Maps.{Sound}
@@ -15,7 +15,7 @@ use Rattle.model.proofs.Maps.Crowds.{uncrowded_empty}
 use Rattle.model.proofs.Runs.Steps.{Holds, holds_nth, New, cleared, opened, copied, edited, united, issued, loaded, step}
 
 -- what holds of the versions of all places holds of a live one
-pub live_holds : (P : Version → Type 0) (a : Account) (i : ℕ) (v : Version) → All (Holds P) a.places → live a i ≡ Some v → P v
+pub live_holds : (P : Version → Type 0) (a : Account) (i : ℕ) (v : Version) → AllByRecursion (Holds P) a.places → live a i ≡ Some v → P v
 live_holds P a i v h = go (nth a.places i) (holds_nth P a.places i h)
   where
     go : (p : Place) → Holds P p → ◌≡◌ {A = Option Version} (elim p [ empty ↦ None | draft v ↦ Some v | published v ↦ Some v ]) (Some v) → P v
@@ -23,7 +23,7 @@ live_holds P a i v h = go (nth a.places i) (holds_nth P a.places i h)
     go (draft w) q e = let s : w ≡ v = cc in rw s at q
     go (published w) q e = let s : w ≡ v = cc in rw s at q
 
-pub all_empty : (P : Version → Type 0) (n : ℕ) → All (Holds P) (replicate n empty)
+pub all_empty : (P : Version → Type 0) (n : ℕ) → AllByRecursion (Holds P) (replicate n empty)
 all_empty P zero = tt
 all_empty P (suc n) = (tt, all_empty P n)
 
@@ -32,7 +32,7 @@ holds_weaker P Q f empty h = tt
 holds_weaker P Q f (draft v) h = f v h
 holds_weaker P Q f (published v) h = f v h
 
-pub all_hold_weaker : (P Q : Version → Type 0) → ((v : Version) → P v → Q v) → (ps : List Place) → All (Holds P) ps → All (Holds Q) ps
+pub all_hold_weaker : (P Q : Version → Type 0) → ((v : Version) → P v → Q v) → (ps : List Place) → AllByRecursion (Holds P) ps → AllByRecursion (Holds Q) ps
 all_hold_weaker P Q f ps = All-weaker (Holds P) (Holds Q) (holds_weaker P Q f) ps
 
 pub holds_both : (P Q : Version → Type 0) (p : Place) → Holds P p → Holds Q p → Holds (λ v. P v × Q v) p
@@ -105,16 +105,16 @@ module _ (K : KeyKind) (V : ValueKind) where
   module _ (exact : OnlyImagesAreAccepted K V) where
     -- what may be said of a version after so many calls: if it goes on to hold of old ones, and holds of each new one, it holds of every live version
     module _ (P : ℕ → Version → Type 0) (later : (n : ℕ) (v : Version) → Good v → P n v → P (n + 1) v)
-        (new : (a : Account) → Reached K V a → All (Holds (λ v. Good v × P a.calls v)) a.places →
+        (new : (a : Account) → Reached K V a → AllByRecursion (Holds (λ v. Good v × P a.calls v)) a.places →
         (i : ℕ) (p : Place) → New K V a (λ v. Good v × P a.calls v) i p → Holds (P (a.calls + 1)) p) where
-      pub reached_holds : (a : Account) → Reached K V a → All (Holds (λ v. Good v × P a.calls v)) a.places
-      reached_holds = reached_keeps_on (λ a. All (Holds (λ v. Good v × P a.calls v)) a.places) keeps (λ n e x y. all_empty (λ v. Good v × P 0 v) 64)
+      pub reached_holds : (a : Account) → Reached K V a → AllByRecursion (Holds (λ v. Good v × P a.calls v)) a.places
+      reached_holds = reached_keeps_on (λ a. AllByRecursion (Holds (λ v. Good v × P a.calls v)) a.places) keeps (λ n e x y. all_empty (λ v. Good v × P 0 v) 64)
         where
-          keeps : (a : Account) → Reached K V a → (c : Call) → Made K V c → All (Holds (λ v. Good v × P a.calls v)) a.places →
-              All (Holds (λ v. Good v × P (a.calls + 1) v)) (after K V a c).places
+          keeps : (a : Account) → Reached K V a → (c : Call) → Made K V c → AllByRecursion (Holds (λ v. Good v × P a.calls v)) a.places →
+              AllByRecursion (Holds (λ v. Good v × P (a.calls + 1) v)) (after K V a c).places
           keeps a r c made h =
               let on = all_hold_weaker (λ v. Good v × P a.calls v) (λ v. Good v × P (a.calls + 1) v) (λ v q. (q.0, later a.calls v q.0 q.1)) a.places h in
-              step K V a exact (λ v. Good v × P a.calls v) (λ v q. q.0) h (λ o. All (Holds (λ v. Good v × P (a.calls + 1) v)) o.places) (λ s. on)
+              step K V a exact (λ v. Good v × P a.calls v) (λ v q. q.0) h (λ o. AllByRecursion (Holds (λ v. Good v × P (a.calls + 1) v)) o.places) (λ s. on)
               (λ s i p q. All-set (Holds (λ v. Good v × P (a.calls + 1) v)) a.places i p
               (holds_both Good (P (a.calls + 1)) p (new_good (λ v. Good v × P a.calls v) (λ v x. x.0) a q) (new a r h i p q)) on)
               c made
@@ -123,10 +123,10 @@ module _ (K : KeyKind) (V : ValueKind) where
       live_keeps a r i v e = (live_holds (λ v. Good v × P a.calls v) a i v (reached_holds a r) e).1
 
     -- every live version's map is sound and uncrowded
-    pub reached_good : (a : Account) → Reached K V a → All (Holds Good) a.places
+    pub reached_good : (a : Account) → Reached K V a → AllByRecursion (Holds Good) a.places
     reached_good =
-        reached_keeps (λ a. All (Holds Good) a.places)
-        (λ a c made h. step K V a exact Good (λ v q. q) h (λ o. All (Holds Good) o.places) (λ s. h)
+        reached_keeps (λ a. AllByRecursion (Holds Good) a.places)
+        (λ a c made h. step K V a exact Good (λ v q. q) h (λ o. AllByRecursion (Holds Good) o.places) (λ s. h)
         (λ s i p q. All-set (Holds Good) a.places i p (new_good Good (λ v x. x) a q) h) c made)
         (λ n e x y. all_empty Good 64)
 

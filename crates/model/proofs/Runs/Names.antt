@@ -1,7 +1,7 @@
 -- What a version is gathered from says what it holds. Assumes nothing.
 use Rattle.std.proofs.Common.{◌≡◌, ℕ, ◌+◌, ◌≤◌, Bool, true, false, cond, eqb, List, [], ◌∷◌, ◌++◌, Some, None, Option, sym, refl, ap, ◌∙◌, ap₂, arith}
 use mathlib.Core.List.{Memᴰ}
-use Rattle.std.specs.List.{AllByRecursion as All}
+use Rattle.std.specs.List.{AllByRecursion}
 use Rattle.std.proofs.ByRecursion.{All-set, All-weaker, All-append}
 use Rattle.std.proofs.lemmas.Bool.{eq-eqb, ne_eqb}
 use Rattle.kinds.specs.Kinds.{KeyKind, ValueKind}
@@ -68,14 +68,14 @@ module _ (K : KeyKind) (V : ValueKind) (T : ℕ → Map) (good : (n : ℕ) → S
   pub joins_same : (x y : List ℕ) → SameNames x y → joins V T x k ≡ joins V T y k
   joins_same x y s = sym (joins_within y x s.1) ∙ joined_comm V (joins V T y k) (joins V T x k) (reads_joins y) (reads_joins x) ∙ joins_within x y s.0
 
-pub joins_agree : (V : ValueKind) (T U : ℕ → Map) (k : List ℕ) (n : ℕ) → ((i : ℕ) → i ≤ n → U i ≡ T i) → (x : List ℕ) → All (λ i. i ≤ n) x → joins V U x k ≡ joins V T x k
+pub joins_agree : (V : ValueKind) (T U : ℕ → Map) (k : List ℕ) (n : ℕ) → ((i : ℕ) → i ≤ n → U i ≡ T i) → (x : List ℕ) → AllByRecursion (λ i. i ≤ n) x → joins V U x k ≡ joins V T x k
 joins_agree V T U k n h [] a = refl
 joins_agree V T U k n h (i ∷ x) a = ap₂ (λ m o. joined V (look m k) o) (h i a.0) (joins_agree V T U k n h x a.1)
 
 -- names no later than the call n, whose maps join to what a map has
 abbrev pub Says : ValueKind → (ℕ → Map) → ℕ → Map → Option (List ℕ) → Type 0
 Says V T n m None = Unit {0}
-Says V T n m (Some x) = All (λ i. i ≤ n) x × ((k : List ℕ) → look m k ≡ joins V T x k)
+Says V T n m (Some x) = AllByRecursion (λ i. i ≤ n) x × ((k : List ℕ) → look m k ≡ joins V T x k)
 
 pub record Told (K : KeyKind) (V : ValueKind) (T : ℕ → Map) (n : ℕ) (v : Version) : Type 0 where
   pub sound : Sound K V v.settings
@@ -86,7 +86,7 @@ pub record Told (K : KeyKind) (V : ValueKind) (T : ℕ → Map) (n : ℕ) (v : V
 pub record Table (K : KeyKind) (V : ValueKind) (a : Account) : Type 0 where
   pub of : ℕ → Map
   pub good : (n : ℕ) → Sound K V (of n)
-  pub told : All (Holds (Told K V of a.calls)) a.places
+  pub told : AllByRecursion (Holds (Told K V of a.calls)) a.places
 
 -- a table that goes on from another, with what is told of a new place
 pub record Grown (K : KeyKind) (V : ValueKind) (a : Account) (T : ℕ → Map) (p : Place) : Type 0 where
@@ -169,7 +169,7 @@ module _ (K : KeyKind) (V : ValueKind) where
         record { of = with_new m; good = new_good m l.sound; agrees = new_agrees m; tells = record { sound = l.sound; uncrowded = l.uncrowded; says = says_new m } }
 
     -- all that was told is still told by a table that goes on
-    still_told : (U : ℕ → Map) → ((i : ℕ) → i ≤ a.calls → U i ≡ T i) → All (Holds (Told K V T a.calls)) a.places → All (Holds (Told K V U (a.calls + 1))) a.places
+    still_told : (U : ℕ → Map) → ((i : ℕ) → i ≤ a.calls → U i ≡ T i) → AllByRecursion (Holds (Told K V T a.calls)) a.places → AllByRecursion (Holds (Told K V U (a.calls + 1))) a.places
     still_told U h = all_hold_weaker (Told K V T a.calls) (Told K V U (a.calls + 1)) (told_more T U a.calls h) a.places
 
   abbrev Leaves : Account → Outcome → Type 0

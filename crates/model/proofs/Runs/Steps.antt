@@ -1,6 +1,6 @@
 -- What a call can leave: the places as they were, or one of them new. Assumes nothing.
 use Rattle.std.proofs.Common.{◌≡◌, ℕ, zero, suc, ◌≤◌, Bool, true, false, cond, ◌&&◌, ltb, leb, ◌⊎◌, List, [], ◌∷◌, map, length, Some, None, refl, inl, inr}
-use Rattle.std.specs.List.{AllByRecursion as All}
+use Rattle.std.specs.List.{AllByRecursion}
 use Rattle.std.proofs.lemmas.Bool.{and_parts, leb-true}
 use Rattle.kinds.specs.Kinds.{KeyKind, ValueKind}
 use Rattle.kinds.specs.Refusals as refusals
@@ -23,7 +23,7 @@ Holds P empty = Unit {0}
 Holds P (draft v) = P v
 Holds P (published v) = P v
 
-pub holds_nth : (P : Version → Type 0) (ps : List Place) (i : ℕ) → All (Holds P) ps → Holds P (nth ps i)
+pub holds_nth : (P : Version → Type 0) (ps : List Place) (i : ℕ) → AllByRecursion (Holds P) ps → Holds P (nth ps i)
 holds_nth P [] i h = tt
 holds_nth P (p ∷ ps) zero h = h.0
 holds_nth P (p ∷ ps) (suc i) h = holds_nth P ps i h.1
@@ -96,8 +96,8 @@ module _ (K : KeyKind) (V : ValueKind) (a : Account) where
 
   -- a result that was let in: its sources are live, it is sound and uncrowded, and there was room for what it took
   pub record LetIn (P : Version → Type 0) (vs : List Version) (m : Map) (s : Shared) : Type 0 where
-    pub from : All P vs
-    pub live : All (λ v. (j : ℕ) × ((at K V a j ≡ draft v) ⊎ (at K V a j ≡ published v))) vs
+    pub from : AllByRecursion P vs
+    pub live : AllByRecursion (λ v. (j : ℕ) × ((at K V a j ≡ draft v) ⊎ (at K V a j ≡ published v))) vs
     pub shares : s ≡ shared K (now K V a) (map whole vs) m
     pub nodes_fit : s.new_nodes ≤ free_nodes a
     pub entries_fit : s.new_entries ≤ free_entries a
@@ -116,7 +116,7 @@ module _ (K : KeyKind) (V : ValueKind) (a : Account) where
     loaded : {i : ℕ} (m : Map) (s : Shared) → LetIn P [] m s → New P i (published (version K V a m (Some (now K V a ∷ [])) s))
 
   module _ (exact : OnlyImagesAreAccepted K V) (P : Version → Type 0) (lawful : (v : Version) → P v → Sound K V v.settings × Uncrowded K v.settings)
-      (held : All (Holds P) a.places) (Q : Outcome → Type 0) (kept : (r : Answer) → Q (reply K V a r))
+      (held : AllByRecursion (Holds P) a.places) (Q : Outcome → Type 0) (kept : (r : Answer) → Q (reply K V a r))
       (new : (r : Answer) (i : ℕ) (p : Place) → New P i p → Q (leave K V a r i p)) where
     refusal : (n : ℕ) → Q (refuse K V a n)
     refusal n = kept (refused (refusals.refused n))

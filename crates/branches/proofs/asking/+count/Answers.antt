@@ -6,8 +6,8 @@ use Rattle.branches.proofs.asking.+count.Goals as goal
 pub bounds-nodes-id : goal.bounds-nodes-id
 bounds-nodes-id g t c = inside _ _ (few_as _ _ _ _ _ _ _ c.in-Child.is c.requires).some.is.0.held
 
-pub overflow-sub-level : goal.overflow-sub-level
-overflow-sub-level g t c = child_level _ _ _ _ _ _ _ _ c.in-Some.ensures.0 c.in-Some.ensures.1 _ refl (few_as _ _ _ _ _ _ _ c.in-Child.is c.requires)
+pub overflow_sub-level : goal.overflow_sub-level
+overflow_sub-level g t c = child_level _ _ _ _ _ _ _ _ c.in-Some.ensures.0 c.in-Some.ensures.1 _ refl (few_as _ _ _ _ _ _ _ c.in-Child.is c.requires)
 
 pub count-total-requires : goal.count-total-requires
 count-total-requires g t c κs within = (
@@ -15,12 +15,12 @@ count-total-requires g t c κs within = (
   (within.0, (within.1, child_few _ _ _ _ _ _ _ _ c.in-Some.ensures.0 c.in-Some.ensures.1 _ refl (few_as _ _ _ _ _ _ _ c.in-Child.is c.requires))),
 )
 
-pub overflow-add-total : goal.overflow-add-total
-overflow-add-total g t c =
+pub overflow_add-total : goal.overflow_add-total
+overflow_add-total g t c =
     omega (arith, sum_few _ _ _ _ _ _ _ _ c.in-Some.ensures.0 c.in-Some.ensures.1 _ refl (few_as _ _ _ _ _ _ _ c.in-Child.is c.requires) _ _ c.loop-child.invariant c.count-total.ensures)
 
 pub loop-child-preserved : goal.loop-child-preserved
 loop-child-preserved g t c = counting_more _ _ _ _ _ _ _ _ c.in-Some.ensures.0 c.in-Some.ensures.1 _ _ c.loop-child.invariant c.count-total.ensures
 
-pub returns-in-default : goal.returns-in-default
-returns-in-default g t c = counted_as _ _ _ _ _ _ _ _ c.in-Child.is (counting_end _ _ _ _ _ _ _ _ c.loop-child.invariant c.in-default.ensures _ refl)
+pub returns-in_default : goal.returns-in_default
+returns-in_default g t c = counted_as _ _ _ _ _ _ _ _ c.in-Child.is (counting_end _ _ _ _ _ _ _ _ c.loop-child.invariant c.in_default.ensures _ refl)

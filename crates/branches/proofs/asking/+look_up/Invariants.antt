@@ -1,4 +1,4 @@
 use Rattle.branches.proofs.asking.+look_up.Given as goal
 
-abbrev pub decreases-look-up : goal.decreases-look-up
-decreases-look-up g l = l.level
+abbrev pub decreases-look_up : goal.decreases-look_up
+decreases-look_up g l = l.level

@@ -7,16 +7,16 @@ use Rattle.branches.proofs.asking.find_in_node.Goals as goal
 pub bounds-nodes-id : goal.bounds-nodes-id
 bounds-nodes-id g c = inside _ _ c.requires.is.0.held
 
-pub setting-of-other-requires : goal.setting-of-other-requires
-setting-of-other-requires g c = entry_some _ _ _ _ _ _ _ c.in-Some.ensures.0 c.in-Some.ensures.1 _ refl c.requires
+pub setting_of-other-requires : goal.setting_of-other-requires
+setting_of-other-requires g c = entry_some _ _ _ _ _ _ _ c.in-Some.ensures.0 c.in-Some.ensures.1 _ refl c.requires
 
 pub returns-then-same : goal.returns-then-same
 returns-then-same g c =
-    found_here _ _ _ _ _ _ _ c.in-Some.ensures.0 c.in-Some.ensures.1 _ _ c.setting-of-other.ensures _ refl _ c.loop-entry.invariant (c.same.ensures.0 c.if-same.true)
+    found_here _ _ _ _ _ _ _ c.in-Some.ensures.0 c.in-Some.ensures.1 _ _ c.setting_of-other.ensures _ refl _ c.loop-entry.invariant (c.same.ensures.0 c.if-same.true)
 
 pub loop-entry-preserved : goal.loop-entry-preserved
 loop-entry-preserved g c =
-    unfound_more _ _ _ _ _ _ _ c.in-Some.ensures.0 c.in-Some.ensures.1 _ _ c.setting-of-other.ensures _ c.loop-entry.invariant (λ e. both_ways _ c.if-same.false (c.same.ensures.1 e))
+    unfound_more _ _ _ _ _ _ _ c.in-Some.ensures.0 c.in-Some.ensures.1 _ _ c.setting_of-other.ensures _ c.loop-entry.invariant (λ e. both_ways _ c.if-same.false (c.same.ensures.1 e))
 
 pub returns : goal.returns
-returns g c = unfound_end _ _ _ _ _ _ refl _ _ c.loop-entry.invariant c.in-default.ensures
+returns g c = unfound_end _ _ _ _ _ _ refl _ _ c.loop-entry.invariant c.in_default.ensures

@@ -10,28 +10,28 @@ returns-in-Some g c =
     goes_as _ _ _ _ _ _ _ _ _ c.in-Child.is
     (goes_child _ _ _ _ _ _ c.requires.digit _ _ c.in-Some.ensures.0 c.in-Some.ensures.1)
 
-pub returns-in-Some-entry-at : goal.returns-in-Some-entry-at
-returns-in-Some-entry-at g c =
+pub returns-in-Some-entry_at : goal.returns-in-Some-entry_at
+returns-in-Some-entry_at g c =
     goes_as _ _ _ _ _ _ _ _ _ c.in-Child.is
-    (goes_single _ _ _ _ _ _ c.requires.digit _ _ c.in-Some-entry-at.ensures.0 c.in-Some-entry-at.ensures.1)
+    (goes_single _ _ _ _ _ _ c.requires.digit _ _ c.in-Some-entry_at.ensures.0 c.in-Some-entry_at.ensures.1)
 
 pub returns-in-None : goal.returns-in-None
 returns-in-None g c =
     goes_as _ _ _ _ _ _ _ _ _ c.in-Child.is
-    (goes_none _ _ _ _ _ _ c.requires.digit _ c.in-default.ensures c.in-None.ensures)
+    (goes_none _ _ _ _ _ _ c.requires.digit _ c.in_default.ensures c.in-None.ensures)
 
-pub setting-of-key-requires : goal.setting-of-key-requires
-setting-of-key-requires g c = part_entry _ _ _ _ _ _ _ c.requires.part c.in-Entry.is
+pub setting_of-key-requires : goal.setting_of-key-requires
+setting_of-key-requires g c = part_entry _ _ _ _ _ _ _ c.requires.part c.in-Entry.is
 
 pub returns-in-Nothing : goal.returns-in-Nothing
 returns-in-Nothing g c = goes_as _ _ _ _ _ _ _ _ _ c.in-Nothing.is (goes_nothing _ _ _ _ _ _)
 
-pub returns-then-digit-of-digit : goal.returns-then-digit-of-digit
-returns-then-digit-of-digit g c =
+pub returns-then-digit_of-digit : goal.returns-then-digit_of-digit
+returns-then-digit_of-digit g c =
     goes_as _ _ _ _ _ _ _ _ _ c.in-Entry.is
-    (goes_entry _ _ _ _ _ _ _ _ _ c.setting-of-key.ensures _ _ c.hash.ensures c.digit-of.ensures.value c.if-digit-of-digit.true)
+    (goes_entry _ _ _ _ _ _ _ _ _ c.setting_of-key.ensures _ _ c.hash.ensures c.digit_of.ensures.value c.if-digit_of-digit.true)
 
-pub returns-else-digit-of-digit : goal.returns-else-digit-of-digit
-returns-else-digit-of-digit g c =
+pub returns-else-digit_of-digit : goal.returns-else-digit_of-digit
+returns-else-digit_of-digit g c =
     goes_as _ _ _ _ _ _ _ _ _ c.in-Entry.is
-    (goes_past _ _ _ _ _ _ _ _ _ c.setting-of-key.ensures _ _ c.hash.ensures c.digit-of.ensures.value c.if-digit-of-digit.false)
+    (goes_past _ _ _ _ _ _ _ _ _ c.setting_of-key.ensures _ _ c.hash.ensures c.digit_of.ensures.value c.if-digit_of-digit.false)
