@@ -4,19 +4,19 @@ use Rattle.edits.proofs.Estimates.{child_seen, digit_at, digit_set, digit_kept, 
 use Rattle.edits.proofs.estimating.+estimate_set.Goals as goal
 use Rattle.edits.proofs.estimating.+estimate_set.Goals.{then-g-digit, else-g-digit}
 
-pub returns-then-is-alone : goal.returns-then-is-alone
-returns-then-is-alone g t c = told_alone _ _ _ _ _ _ _ _ _ c.if-level-lt8.true _ c.is-alone.ensures c.if-is-alone.true _ c.estimate-alone.ensures
+pub returns-then-is_alone : goal.returns-then-is_alone
+returns-then-is_alone g t c = told_alone _ _ _ _ _ _ _ _ _ c.if-level-lt8.true _ c.is_alone.ensures c.if-is_alone.true _ c.estimate_alone.ensures
 
-pub estimate-set-new-requires : goal.estimate-set-new-requires
-estimate-set-new-requires g t c κs within =
+pub estimate_set-new-requires : goal.estimate_set-new-requires
+estimate_set-new-requires g t c κs within =
     let tall : 0 < c.args.level = omega arith in (
       omega arith,
       (
         within.0,
         (
           within.1,
-          child_seen _ _ _ _ _ _ _ _ _ c.requires tall _ (omega arith) _ c.at-digit-old.ensures
-              (digit_at _ _ _ _ _ _ _ _ _ c.requires _ _ _ c.hash.ensures c.digit-of-digit.ensures.value c.if-g-digit.true),
+          child_seen _ _ _ _ _ _ _ _ _ c.requires tall _ (omega arith) _ c.at_digit-old.ensures
+              (digit_at _ _ _ _ _ _ _ _ _ c.requires _ _ _ c.hash.ensures c.digit_of-digit.ensures.value c.if-g-digit.true),
         ),
       ),
     )
@@ -27,10 +27,10 @@ together-sum-requires g t c =
     elim c.if-g-digit.branch [
       | then-g-digit w ↦
           addable _ _ _ _ _ _ _ _ _ tall _ _ c.loop-g.invariant _
-          (digit_set _ _ _ _ _ _ _ _ _ tall _ (omega arith) _ c.at-digit-old.ensures _ _ c.hash.ensures c.digit-of-digit.ensures.value w.if-g-digit.true _ _ w.new-is w.estimate-set-new.ensures) (omega arith) c.requires
+          (digit_set _ _ _ _ _ _ _ _ _ tall _ (omega arith) _ c.at_digit-old.ensures _ _ c.hash.ensures c.digit_of-digit.ensures.value w.if-g-digit.true _ _ w.new-is w.estimate_set-new.ensures) (omega arith) c.requires
       | else-g-digit w ↦
           addable _ _ _ _ _ _ _ _ _ tall _ _ c.loop-g.invariant _
-          (digit_kept _ _ _ _ _ _ _ _ _ tall _ (omega arith) _ c.at-digit-old.ensures _ _ c.hash.ensures c.digit-of-digit.ensures.value w.if-g-digit.false _ _ w.new-is w.unchanged-new.ensures) (omega arith) c.requires
+          (digit_kept _ _ _ _ _ _ _ _ _ tall _ (omega arith) _ c.at_digit-old.ensures _ _ c.hash.ensures c.digit_of-digit.ensures.value w.if-g-digit.false _ _ w.new-is w.unchanged-new.ensures) (omega arith) c.requires
     ]
 
 pub loop-g-preserved : goal.loop-g-preserved
@@ -39,10 +39,10 @@ loop-g-preserved g t c =
     elim c.if-g-digit.branch [
       | then-g-digit w ↦
           summed_on _ _ _ _ _ _ _ _ _ tall _ _ c.loop-g.invariant _
-          (digit_set _ _ _ _ _ _ _ _ _ tall _ (omega arith) _ c.at-digit-old.ensures _ _ c.hash.ensures c.digit-of-digit.ensures.value w.if-g-digit.true _ _ w.new-is w.estimate-set-new.ensures) _ c.together-sum.ensures
+          (digit_set _ _ _ _ _ _ _ _ _ tall _ (omega arith) _ c.at_digit-old.ensures _ _ c.hash.ensures c.digit_of-digit.ensures.value w.if-g-digit.true _ _ w.new-is w.estimate_set-new.ensures) _ c.together-sum.ensures
       | else-g-digit w ↦
           summed_on _ _ _ _ _ _ _ _ _ tall _ _ c.loop-g.invariant _
-          (digit_kept _ _ _ _ _ _ _ _ _ tall _ (omega arith) _ c.at-digit-old.ensures _ _ c.hash.ensures c.digit-of-digit.ensures.value w.if-g-digit.false _ _ w.new-is w.unchanged-new.ensures) _ c.together-sum.ensures
+          (digit_kept _ _ _ _ _ _ _ _ _ tall _ (omega arith) _ c.at_digit-old.ensures _ _ c.hash.ensures c.digit_of-digit.ensures.value w.if-g-digit.false _ _ w.new-is w.unchanged-new.ensures) _ c.together-sum.ensures
     ]
 
 pub close-requires : goal.close-requires

@@ -3,8 +3,8 @@ use Rattle.edits.specs.Sets.{value_bytes}
 use Rattle.edits.proofs.Estimates.{Summed}
 use Rattle.edits.proofs.estimating.+estimate_set.Given as goal
 
-abbrev pub decreases-estimate-set : goal.decreases-estimate-set
-decreases-estimate-set g l = l.level
+abbrev pub decreases-estimate_set : goal.decreases-estimate_set
+decreases-estimate_set g l = l.level
 
 abbrev pub invariant-loop-g : goal.invariant-loop-g
 invariant-loop-g g l =

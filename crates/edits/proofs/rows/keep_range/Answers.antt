@@ -6,24 +6,24 @@ use Rattle.edits.proofs.rows.keep_range.Goals as goal
 pub loop-j-init : goal.loop-j-init
 loop-j-init g c = keep_start _ _ _ _ _ _ _ _ _ _ c.requires
 
-pub hold-entry-requires : goal.hold-entry-requires
-hold-entry-requires g c = record {
+pub hold_entry-requires : goal.hold_entry-requires
+hold_entry-requires g c = record {
   held = keep_held _ _ _ _ _ _ _ _ _ _ c.requires _ _ _ _ _ c.loop-j.invariant c.loop-j.auto.j c.loop-j-test.true;
   heap = keep_heap _ _ _ _ _ _ _ _ _ _ c.requires _ _ _ _ _ c.loop-j.invariant c.loop-j.auto.j c.loop-j-test.true;
 }
 
-pub overflow-cast-all : goal.overflow-cast-all
-overflow-cast-all g c = Fits-below {n = 15} tt (omega (arith, keep_few _ _ _ _ _ _ _ _ _ _ c.requires _ _ _ _ _ c.loop-j.invariant c.loop-j.auto.j c.loop-j-test.true))
+pub overflow_cast-all : goal.overflow_cast-all
+overflow_cast-all g c = Fits-below {n = 15} tt (omega (arith, keep_few _ _ _ _ _ _ _ _ _ _ c.requires _ _ _ _ _ c.loop-j.invariant c.loop-j.auto.j c.loop-j-test.true))
 
-pub take-up-all-requires : goal.take-up-all-requires
-take-up-all-requires g c =
+pub take_up-all-requires : goal.take_up-all-requires
+take_up-all-requires g c =
     let few = keep_few _ _ _ _ _ _ _ _ _ _ c.requires _ _ _ _ _ c.loop-j.invariant c.loop-j.auto.j c.loop-j-test.true in
     let fits = keep_fits _ _ _ _ _ _ _ _ _ _ c.requires _ _ _ _ _ c.loop-j.invariant c.loop-j.auto.j c.loop-j-test.true in
-    record { digit = few; singles = few; kids = fits.0; data-fits = fits.1.0; node-fits = fits.1.1 }
+    record { digit = few; singles = few; kids = fits.0; data_fits = fits.1.0; node_fits = fits.1.1 }
 
 pub loop-j-preserved : goal.loop-j-preserved
 loop-j-preserved g c =
-    keep_step _ _ _ _ _ _ _ _ _ _ c.requires _ _ _ _ _ c.loop-j.invariant c.loop-j.auto.j c.loop-j-test.true _ _ _ _ _ refl c.hold-entry.ensures c.take-up-all.ensures
+    keep_step _ _ _ _ _ _ _ _ _ _ c.requires _ _ _ _ _ c.loop-j.invariant c.loop-j.auto.j c.loop-j-test.true _ _ _ _ _ refl c.hold_entry.ensures c.take_up-all.ensures
 
 pub returns : goal.returns
 returns g c =

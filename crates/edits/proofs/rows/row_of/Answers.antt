@@ -8,5 +8,5 @@ bounds-nodes-id c = inside _ _ (subst (NodeIn c.args.nodes.now.cells.now) c.in-C
 
 pub returns-in-Child : goal.returns-in-Child
 returns-in-Child c =
-    let row = c.row-in.ensures in
+    let row = c.row_in.ensures in
     record { slots = row.slots; few = row.few; is = row.is ∙ ap (entries_of c.args.nodes.now.cells.now) (sym c.in-Child.is) }

@@ -5,8 +5,8 @@ use Rattle.edits.proofs.rows.same_value.Goals as goal
 pub bounds-slots-place : goal.bounds-slots-place
 bounds-slots-place g c = omega (arith, c.requires.inside c.if-not-found.false, c.requires.row.few)
 
-pub setting-of-old-requires : goal.setting-of-old-requires
-setting-of-old-requires g c =
+pub setting_of-old-requires : goal.setting_of-old-requires
+setting_of-old-requires g c =
     let row = c.requires.row in
     record {
       tables = row.tables;
@@ -26,7 +26,7 @@ returns-then-not-found g c =
 pub returns-else-not-found : goal.returns-else-not-found
 returns-else-not-found g c =
     same_there g.K.Key.kind g.K.Key.bytes g.V.Value.bytes c.args.entries.now.cells.now c.args.row.now c.args.place c.args.found c.args.value
-    c.if-not-found.false c.in-Some.new c.in-Some.is _ _ c.setting-of-old.ensures _ c.same.ensures
+    c.if-not-found.false c.in-Some.new c.in-Some.is _ _ c.setting_of-old.ensures _ c.same.ensures
 
 pub returns-in-None : goal.returns-in-None
 returns-in-None g c =

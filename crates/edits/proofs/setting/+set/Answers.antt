@@ -7,28 +7,28 @@ use Rattle.edits.proofs.Wholes.{ready_whole, done_whole}
 use Rattle.edits.proofs.setting.+set.Goals as goal
 use Rattle.edits.proofs.setting.+set.Goals.{then-g-digit, else-g-digit, in-Some, in-None}
 
-pub make-entry-requires : goal.make-entry-requires
-make-entry-requires g t c =
+pub make_entry-requires : goal.make_entry-requires
+make_entry-requires g t c =
     record {
-      some = entry_room _ _ _ _ _ _ _ _ c.if-level-lt8.true _ c.is-alone.ensures c.if-is-alone.true _ _ (ap (value_bytes g.V.Value.bytes) c.in-Some.is) c.requires;
+      some = entry_room _ _ _ _ _ _ _ _ c.if-level-lt8.true _ c.is_alone.ensures c.if-is_alone.true _ _ (ap (value_bytes g.V.Value.bytes) c.in-Some.is) c.requires;
       heap = (c.args.nodes.now.cells.now, (c.requires.in_hand, c.requires.sits.entries));
     }
 
-pub returns-then-is-alone : goal.returns-then-is-alone
-returns-then-is-alone g t c =
+pub returns-then-is_alone : goal.returns-then-is_alone
+returns-then-is_alone g t c =
     elim c.match-value.branch [
       | in-Some w ↦
-          done_some _ _ _ _ _ _ _ _ c.if-level-lt8.true _ c.is-alone.ensures c.if-is-alone.true _ _ (ap (value_bytes g.V.Value.bytes) w.in-Some.is)
-          _ _ refl refl _ _ w.result-is _ _ (ap (tables_of c.args.nodes.now) w.entries-is) (refl, refl, refl) w.make-entry.ensures
+          done_some _ _ _ _ _ _ _ _ c.if-level-lt8.true _ c.is_alone.ensures c.if-is_alone.true _ _ (ap (value_bytes g.V.Value.bytes) w.in-Some.is)
+          _ _ refl refl _ _ w.result-is _ _ (ap (tables_of c.args.nodes.now) w.entries-is) (refl, refl, refl) w.make_entry.ensures
       | in-None w ↦
-          done_none _ _ _ _ _ _ _ _ c.if-level-lt8.true _ c.is-alone.ensures c.if-is-alone.true _ (ap (value_bytes g.V.Value.bytes) w.in-None.is) _ w.result-is _ (ap (tables_of c.args.nodes.now) w.entries-is)
+          done_none _ _ _ _ _ _ _ _ c.if-level-lt8.true _ c.is_alone.ensures c.if-is_alone.true _ (ap (value_bytes g.V.Value.bytes) w.in-None.is) _ w.result-is _ (ap (tables_of c.args.nodes.now) w.entries-is)
     ]
 
 pub loop-g-init : goal.loop-g-init
-loop-g-init g t c = underway_none _ _ _ _ _ _ _ _ _ _ c.empty-handed-hand.ensures
+loop-g-init g t c = underway_none _ _ _ _ _ _ _ _ _ _ c.empty_handed-hand.ensures
 
-pub at-digit-old-requires : goal.at-digit-old-requires
-at-digit-old-requires g t c =
+pub at_digit-old-requires : goal.at_digit-old-requires
+at_digit-old-requires g t c =
     let tall : 0 < c.args.level = omega arith in
     record {
       digit = omega arith;
@@ -44,8 +44,8 @@ set-new-requires g t c κs within =
         within.0,
         (
           within.1,
-          child_ready _ _ _ _ _ _ _ _ _ c.requires tall _ _ _ (c.loop-g.invariant.so_far c.requires tall) (omega arith) _ c.at-digit-old.ensures
-              (digit_at _ _ _ _ _ _ _ _ _ c.requires _ _ _ c.hash.ensures c.digit-of-digit.ensures.value c.if-g-digit.true),
+          child_ready _ _ _ _ _ _ _ _ _ c.requires tall _ _ _ (c.loop-g.invariant.so_far c.requires tall) (omega arith) _ c.at_digit-old.ensures
+              (digit_at _ _ _ _ _ _ _ _ _ c.requires _ _ _ c.hash.ensures c.digit_of-digit.ensures.value c.if-g-digit.true),
         ),
       ),
     )
@@ -53,24 +53,24 @@ set-new-requires g t c κs within =
 pub keep-requires : goal.keep-requires
 keep-requires g t c =
     let tall : 0 < c.args.level = omega arith in
-    stays _ _ _ _ _ _ _ _ _ c.requires tall _ _ _ (c.loop-g.invariant.so_far c.requires tall) (omega arith) _ c.at-digit-old.ensures
+    stays _ _ _ _ _ _ _ _ _ c.requires tall _ _ _ (c.loop-g.invariant.so_far c.requires tall) (omega arith) _ c.at_digit-old.ensures
 
-pub take-up-hand-requires : goal.take-up-hand-requires
-take-up-hand-requires g t c =
+pub take_up-hand-requires : goal.take_up-hand-requires
+take_up-hand-requires g t c =
     let tall : 0 < c.args.level = omega arith in
     let w = slots_left _ _ _ _ _ _ _ _ _ c.requires tall _ _ _ (c.loop-g.invariant.so_far c.requires tall) (omega arith) in
     let v = bits_left _ _ _ _ _ _ _ _ _ c.requires tall _ _ _ (c.loop-g.invariant.so_far c.requires tall) (omega arith) in
-    record { digit = omega arith; singles = w.0; kids = w.1; data-fits = v.0; node-fits = v.1 }
+    record { digit = omega arith; singles = w.0; kids = w.1; data_fits = v.0; node_fits = v.1 }
 
 pub loop-g-preserved : goal.loop-g-preserved
 loop-g-preserved g t c =
     elim c.if-g-digit.branch [
       | then-g-digit w ↦
-          underway_set _ _ _ _ _ _ _ _ _ _ _ _ c.loop-g.invariant (omega arith) _ c.at-digit-old.ensures _ _ _ c.hash.ensures c.digit-of-digit.ensures.value _
-          w.if-g-digit.true _ _ w.new-is _ (ap₂ tables_of w.nodes_is w.entries-is) w.set-new.ensures c.take-up-hand.ensures
+          underway_set _ _ _ _ _ _ _ _ _ _ _ _ c.loop-g.invariant (omega arith) _ c.at_digit-old.ensures _ _ _ c.hash.ensures c.digit_of-digit.ensures.value _
+          w.if-g-digit.true _ _ w.new-is _ (ap₂ tables_of w.nodes-is w.entries-is) w.set-new.ensures c.take_up-hand.ensures
       | else-g-digit w ↦
-          underway_kept _ _ _ _ _ _ _ _ _ _ _ _ c.loop-g.invariant (omega arith) _ c.at-digit-old.ensures _ _ _ c.hash.ensures c.digit-of-digit.ensures.value _
-          w.if-g-digit.false _ w.new-is _ (ap₂ tables_of w.nodes_is w.entries-is) w.keep.ensures c.take-up-hand.ensures
+          underway_kept _ _ _ _ _ _ _ _ _ _ _ _ c.loop-g.invariant (omega arith) _ c.at_digit-old.ensures _ _ _ c.hash.ensures c.digit_of-digit.ensures.value _
+          w.if-g-digit.false _ w.new-is _ (ap₂ tables_of w.nodes-is w.entries-is) w.keep.ensures c.take_up-hand.ensures
     ]
 
 pub assemble-requires : goal.assemble-requires
