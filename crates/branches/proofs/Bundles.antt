@@ -1,14 +1,12 @@
 -- What is in hand for a node, by rank and by the bits of its maps. Assumes nothing.
-use Rattle.std.proofs.Common.{◌≡◌, ℕ, zero, suc, ◌+◌, ◌*◌, ◌^◌, ◌<◌, ◌≤◌, Bool, true, false, cond, List, [], ◌∷◌, ◌++◌, map, length, get_or, take, set, replicate, count_by, sym, refl, ap, ◌∙◌, subst, ap₂, mul_assoc, pow-suc, arith, length-append, length-set}
+use Rattle.std.proofs.Common.{◌≡◌, ℕ, zero, suc, ◌+◌, ◌*◌, ◌^◌, ◌<◌, ◌≤◌, Bool, true, false, cond, List, [], ◌∷◌, ◌++◌, map, length, get_or, take, count_by, sym, refl, ap, ◌∙◌, subst, ap₂, mul_assoc, pow-suc, arith, length-set}
 use lib.Count.{ones}
 use lib.Lanes.{mask_l}
-use Rattle.std.specs.List.{range_with_len}
 use Rattle.std.proofs.lemmas.List.{take_more_set, append-nil, length_push, get_or-take}
 use Rattle.std.proofs.lemmas.List.Sums.{count_by-le-length, sum_by_push}
 use Rattle.std.proofs.lemmas.List.FromFn.{fill_by_all}
 use Rattle.std.proofs.lemmas.Simd.{mask_l-lt, ones-mask_l}
 use Rattle.model.specs.Maps.{Map}
-use Rattle.model.specs.Tries.{sixteen}
 use Rattle.model.specs.Images.{bits}
 use Rattle.tables.specs.Cells.{listed}
 use Rattle.branches.specs.declared.branch.Branch.{Branch}

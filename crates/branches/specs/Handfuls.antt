@@ -1,5 +1,5 @@
 -- What is in hand for a node, as the code keeps it. Assumes nothing.
-use Rattle.std.specs.Prelude.{◌≡◌, ℕ, ◌+◌, ◌^◌, ◌<◌, Bool, true, false, cond, ◌||◌, List, [], ◌++◌, length, take, replicate, count_by, nat_lt, slice_index, slice_set}
+use Rattle.std.specs.Prelude.{◌≡◌, ℕ, ◌+◌, ◌^◌, ◌<◌, Bool, true, false, cond, ◌||◌, List, ◌++◌, length, take, replicate, count_by, nat_lt, slice_index, slice_set}
 use Rattle.std.specs.Simd.Lanes.{mask_l}
 use Rattle.tables.specs.declared.cells.NodeCell.{NodeCell}
 use Rattle.tables.specs.Chains.{occ}

@@ -2,7 +2,7 @@
 use Rattle.std.specs.Prelude.{◌≡◌, ℕ, ◌+◌, ◌<◌, true, List, [], ◌∷◌, ◌++◌, map, length, sum_by}
 use Rattle.std.specs.List.{range_with_len}
 use Rattle.kinds.specs.Kinds.{KeyKind}
-use Rattle.model.specs.Maps.{Setting, Map}
+use Rattle.model.specs.Maps.{Map}
 use Rattle.model.specs.Tries.{filter, leads, at_digit, one, many}
 use Rattle.model.specs.Images.{picked}
 use Rattle.model.specs.Sharing.{Part, Shared, begins, below, entry_from, sum, share}

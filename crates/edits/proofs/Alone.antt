@@ -1,9 +1,9 @@
 -- A key is set where no other key is: one new entry, or nothing. Assumes nothing.
-use Rattle.std.proofs.Common.{◌≡◌, ℕ, ◌+◌, ◌<◌, ◌≤◌, Bool, true, false, cond, List, [], ◌∷◌, Some, None, Option, sym, refl, ap, ◌∙◌, subst, ap₂, arith}
+use Rattle.std.proofs.Common.{◌≡◌, ℕ, ◌<◌, ◌≤◌, Bool, true, false, cond, List, [], ◌∷◌, Some, None, Option, sym, refl, ap, ◌∙◌, subst, ap₂, arith}
 use Rattle.std.proofs.lemmas.List.{get_or-set_same}
 use Rattle.kinds.specs.Kinds.{KeyKind, ValueKind}
-use Rattle.model.specs.Maps.{Setting, Map, look, same_found}
-use Rattle.model.specs.Sharing.{Marked, Part, Shared, no_share, entry_from}
+use Rattle.model.specs.Maps.{Setting, Map, same_found}
+use Rattle.model.specs.Sharing.{Marked, Shared}
 use Rattle.model.proofs.Maps.Found.{found_self}
 use Rattle.tables.specs.declared.cells.EntryCell.{EntryCell}
 use Rattle.tables.specs.declared.cells.EntryId.{EntryId}
@@ -14,9 +14,9 @@ use Rattle.tables.proofs.Noting.{noted_same}
 use Rattle.plans.specs.Plans.{edited, portion}
 use Rattle.plans.proofs.Sharing.{portion_one}
 use Rattle.branches.specs.declared.branch.Branch.{Branch}
-use Rattle.branches.specs.declared.branch.Branch.TheVariants.{Nothing, Entry, Child}
-use Rattle.branches.specs.States.{Tables, Notes, Under, Led}
-use Rattle.branches.specs.Branches.{Built, Single}
+use Rattle.branches.specs.declared.branch.Branch.TheVariants.{Nothing, Entry}
+use Rattle.branches.specs.States.{Tables, Under, Led}
+use Rattle.branches.specs.Branches.{Built}
 use Rattle.branches.proofs.Growing.{grown_none, grown_to, NodesStay, with_entry, entry_made_grown, entry_made_sits}
 use Rattle.branches.proofs.Settings.{lone, new_entry, entry_new}
 use Rattle.edits.specs.Sets.{Ready, Done, Alone, FoundAlone}

@@ -1,13 +1,13 @@
 -- One digit after another of an edit of one key. Assumes nothing.
-use Rattle.std.proofs.Common.{◌≡◌, ℕ, suc, ◌+◌, ◌-◌, ◌*◌, ◌^◌, ◌<◌, ◌≤◌, Bool, true, false, cond, ◌||◌, eqb, ltb, ◌⊎◌, List, [], ◌∷◌, ◌++◌, map, length, Some, None, Option, sym, refl, ap, ◌∙◌, subst, ap₂, inl, inr, arith, length-append}
+use Rattle.std.proofs.Common.{◌≡◌, ℕ, suc, ◌+◌, ◌-◌, ◌*◌, ◌^◌, ◌<◌, ◌≤◌, Bool, true, false, eqb, List, [], ◌∷◌, ◌++◌, map, length, Some, None, Option, sym, ap, ◌∙◌, subst, ap₂, arith, length-append}
 use Rattle.std.specs.List.{range_with_len}
 use Rattle.std.proofs.lemmas.List.FromFn.{length-map-range_with_len, map-range_with_len_more}
 use Rattle.std.proofs.lemmas.List.{length_push}
 use Rattle.std.proofs.lemmas.Bool.{eq-eqb, ne_eqb, lt-ltb, cond-true, and_from}
 use Rattle.kinds.specs.Kinds.{KeyKind, ValueKind}
-use Rattle.model.specs.Maps.{Setting, Map, Sound, look, same_found, same_map}
+use Rattle.model.specs.Maps.{Map, look, same_found}
 use Rattle.model.specs.Tries.{digit, leads, at_digit, one, many, sixteen}
-use Rattle.model.specs.Sharing.{Part, Shared, below, first_same}
+use Rattle.model.specs.Sharing.{Part, below}
 use Rattle.model.proofs.Images.Gets.{leads_push}
 use Rattle.model.proofs.Maps.Order.{Reads}
 use Rattle.plans.specs.Plans.{edited, crowd, portion, total}
@@ -19,7 +19,7 @@ use Rattle.plans.proofs.Costs.{portion_nodes, portion_entries}
 use Rattle.branches.specs.declared.branch.Branch.{Branch}
 use Rattle.branches.specs.declared.branch.Branch.TheVariants.{Nothing, Entry, Child}
 use Rattle.branches.specs.declared.handful.Handful.{Handful}
-use Rattle.branches.specs.States.{Tables, Notes, Under, Led}
+use Rattle.branches.specs.States.{Tables, Notes}
 use Rattle.branches.specs.Branches.{Is, Built, Goes_on, SomePart, Stays, Kept, node_of, entry_of}
 use Rattle.branches.specs.Hands.{Gathered}
 use Rattle.branches.specs.Handfuls.{Bundled, nothing_in_hand, with_branch, is_entry, is_child}

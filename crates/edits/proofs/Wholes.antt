@@ -1,18 +1,15 @@
 -- All sixteen digits of an edit of one key, made into a branch. Assumes nothing.
-use Rattle.std.proofs.Common.{◌≡◌, ℕ, suc, ◌+◌, ◌-◌, ◌<◌, ◌≤◌, Bool, true, false, cond, ◌||◌, ltb, ◌⊎◌, List, [], ◌∷◌, ◌++◌, map, length, get_or, take, is_some, Some, None, Option, sym, refl, ap, ◌∙◌, subst, ap₂, inl, inr, arith}
+use Rattle.std.proofs.Common.{◌≡◌, ℕ, suc, ◌+◌, ◌-◌, ◌<◌, ◌≤◌, Bool, true, false, cond, ◌||◌, ltb, List, [], ◌∷◌, ◌++◌, map, length, get_or, take, is_some, Some, None, Option, sym, refl, ap, ◌∙◌, subst, inl, inr, arith}
 use lib.Lanes.{mask_l}
 use Rattle.std.specs.List.{range_with_len}
 use Rattle.std.proofs.lemmas.List.FromFn.{length-map-range_with_len}
 use Rattle.std.proofs.lemmas.List.{length_push}
 use Rattle.std.proofs.lemmas.Bool.{or_cases, ltb-true, lt-ltb, cond-true, cond-false}
 use Rattle.kinds.specs.Kinds.{KeyKind, ValueKind}
-use Rattle.model.specs.Maps.{Map, same_map, same_found, look}
+use Rattle.model.specs.Maps.{Map, same_map}
 use Rattle.model.specs.Tries.{at_digit, parts, one, many, sixteen}
 use Rattle.model.specs.Images.{bits}
 use Rattle.model.specs.Sharing.{Part, Shared, first_same}
-use Rattle.tables.specs.declared.cells.NodeCell.{NodeCell}
-use Rattle.tables.specs.declared.cells.NodeId.{NodeId}
-use Rattle.tables.specs.declared.cells.EntryId.{EntryId}
 use Rattle.tables.specs.Chains.{occ}
 use Rattle.tables.specs.Cells.{cell, listed}
 use Rattle.tables.specs.Heaps.{Nodes}
@@ -24,10 +21,10 @@ use Rattle.plans.proofs.Sharing.{portion_bushy}
 use Rattle.branches.specs.declared.branch.Branch.{Branch}
 use Rattle.branches.specs.declared.branch.Branch.TheVariants.{Nothing, Entry, Child}
 use Rattle.branches.specs.declared.handful.Handful.{Handful}
-use Rattle.branches.specs.States.{Tables, Notes}
+use Rattle.branches.specs.States.{Tables}
 use Rattle.branches.specs.Branches.{Built}
 use Rattle.branches.specs.Hands.{Gathered}
-use Rattle.branches.specs.Handfuls.{Bundled, makes_node, node_cell, Assembling, Assembled}
+use Rattle.branches.specs.Handfuls.{makes_node, node_cell, Assembling, Assembled}
 use Rattle.branches.proofs.Growing.{EntriesStay}
 use Rattle.branches.proofs.Settings.{edited_same}
 use Rattle.branches.proofs.Bundles.{bits_mask, bundled_entries, bundled_children}

@@ -2,8 +2,7 @@
 use Rattle.std.specs.Prelude.{◌≡◌, ℕ, ◌+◌, ◌*◌, ◌≤◌, Bool, true, false, ◌⊎◌, List, [], ◌∷◌, length, Some, None, Option}
 use Rattle.kinds.specs.Kinds.{KeyKind, ValueKind}
 use Rattle.model.specs.Maps.{Setting, Map, Sound, look, same_found}
-use Rattle.model.specs.Tries.{leads}
-use Rattle.model.specs.Sharing.{Part, Shared}
+use Rattle.model.specs.Sharing.{Part}
 use Rattle.plans.specs.Plans.{edited, crowd, portion, Tally, Told}
 use Rattle.branches.specs.declared.branch.Branch.{Branch}
 use Rattle.branches.specs.States.{Tables, Notes, Sits, Clear, Under, Led}

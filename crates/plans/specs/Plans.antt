@@ -1,9 +1,9 @@
 -- What an edit of one or two sources makes of a part, digit by digit, in marks and in numbers. Assumes nothing.
-use Rattle.std.specs.Prelude.{◌≡◌, ℕ, zero, suc, ◌+◌, Bool, true, false, cond, ◌&&◌, ◌||◌, List, [], ◌∷◌, ◌++◌, map, length, Some, None, Option, nat_lt}
+use Rattle.std.specs.Prelude.{◌≡◌, ℕ, zero, suc, ◌+◌, Bool, true, false, cond, ◌&&◌, ◌||◌, List, [], ◌∷◌, length, Some, None, Option, nat_lt}
 use Rattle.kinds.specs.Kinds.{KeyKind}
-use Rattle.model.specs.Maps.{Setting, Map, put, remove, same_map}
+use Rattle.model.specs.Maps.{Map, put, remove, same_map}
 use Rattle.model.specs.Tries.{at_digit, sixteen}
-use Rattle.model.specs.Sharing.{Part, Shared, no_share, entry_from, share, below}
+use Rattle.model.specs.Sharing.{Part, Shared, no_share, entry_from, share}
 
 -- ---- one key is set
 

@@ -1,12 +1,12 @@
 -- Questions of a live place: what they answer, whichever account the store represents. Assumes nothing.
-use Rattle.std.proofs.Common.{◌≡◌, ℕ, ◌<◌, ◌≤◌, true, ◌⊎◌, List, [], length, get_or, Some, None, Ok, Err, Option, Result, sym, refl, ap, ◌∙◌, subst, inl, inr, arith}
+use Rattle.std.proofs.Common.{◌≡◌, ℕ, ◌<◌, true, ◌⊎◌, List, [], get_or, Some, Err, Option, Result, sym, refl, ap, ◌∙◌, inl, inr}
 use Rattle.kinds.specs.Kinds.{KeyKind, ValueKind}
 use Rattle.kinds.specs.declared.refusal.Refusal.{Refusal}
 use Rattle.kinds.specs.Refusals as refusals
 use Rattle.kinds.specs.Refusals.{shown}
-use Rattle.model.specs.Accounts.{Version, Account, empty, draft, published, nth, whole}
-use Rattle.model.specs.Calls.{Answer, refused, found, counted, Outcome, outcome, reply, on_live, LookUp, Count}
-use Rattle.model.specs.Runs.{live, Made}
+use Rattle.model.specs.Accounts.{Version, Account, whole}
+use Rattle.model.specs.Calls.{Answer, refused, found, counted, Outcome, on_live, LookUp, Count}
+use Rattle.model.specs.Runs.{live}
 use Rattle.model.proofs.Promises.{few_settings}
 use Rattle.branches.specs.declared.branch.Branch.{Branch}
 use Rattle.branches.specs.Branches.{Is, SomePart}

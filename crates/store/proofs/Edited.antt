@@ -1,10 +1,9 @@
 -- One key of a draft is set: what the call answers, whichever account the store represents. Assumes nothing.
-use Rattle.std.proofs.Common.{◌≡◌, ℕ, ◌+◌, ◌<◌, ◌≤◌, Bool, true, false, ◌⊎◌, List, [], ◌∷◌, ◌++◌, get_or, set, Some, None, Ok, Err, Option, Result, sym, refl, ap, ◌∙◌, subst, ap₂, inl, inr, arith}
+use Rattle.std.proofs.Common.{◌≡◌, ℕ, ◌+◌, ◌<◌, ◌≤◌, true, false, ◌⊎◌, List, ◌++◌, get_or, set, Some, None, Err, Option, Result, sym, refl, ap, ◌∙◌, subst, arith}
 use Rattle.kinds.specs.Kinds.{KeyKind, ValueKind}
 use Rattle.kinds.specs.declared.refusal.Refusal.{Refusal}
 use Rattle.kinds.specs.Refusals as refusals
 use Rattle.kinds.specs.Refusals.{Refused, shown}
-use Rattle.model.specs.Accounts.{Account}
 use Rattle.model.specs.Calls.{Answer, took, refused}
 use Rattle.branches.specs.declared.branch.Branch.{Branch}
 use Rattle.branches.specs.States.{Tables}
@@ -16,8 +15,8 @@ use Rattle.tables.proofs.Occurrences.{occ_nil, occ_append}
 use Rattle.edits.specs.declared.estimate.Estimate.{Estimate}
 use Rattle.edits.specs.Sets.{Seen, Estimated, Ready, Done, ValueReads, value_bytes}
 use Rattle.store.specs.declared.spot.Spot.{Spot}
-use Rattle.store.specs.declared.spot.Spot.TheVariants.{Empty, Draft, Published}
-use Rattle.store.specs.Stores.{State, owners, Started, Represents, Answered}
+use Rattle.store.specs.declared.spot.Spot.TheVariants.{Empty, Draft}
+use Rattle.store.specs.Stores.{State, owners, Started, Answered}
 use Rattle.store.specs.Spots.{GivenUp, root_of}
 use Rattle.store.specs.Answers.{took_shown}
 use Rattle.store.specs.Sets.{set_call}

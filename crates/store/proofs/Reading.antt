@@ -5,7 +5,6 @@ use Rattle.model.specs.Maps.{Sound}
 use Rattle.model.specs.Tries.{Lawful}
 use Rattle.model.specs.Accounts.{Version, Place, empty, draft, published, Account, nth, whole}
 use Rattle.model.specs.Calls.{Outcome, refuse, on_published, on_empty, on_draft}
-use Rattle.model.specs.Runs.{live}
 use Rattle.model.proofs.Promises.{lawful}
 use Rattle.branches.specs.declared.branch.Branch.{Branch}
 use Rattle.branches.specs.Branches.{Is}

@@ -1,41 +1,39 @@
 -- One key of a draft is set: what the account answers, and what is built. Assumes nothing.
-use Rattle.std.proofs.Common.{◌≡◌, ℕ, ◌+◌, ◌*◌, ◌<◌, ◌≤◌, Bool, true, false, cond, ◌&&◌, leb, ◌⊎◌, List, [], ◌∷◌, ◌++◌, length, get_or, set, Some, None, Ok, Err, Option, Result, sym, refl, ap, ◌∙◌, subst, ap₂, inl, inr, arith}
+use Rattle.std.proofs.Common.{◌≡◌, ℕ, ◌+◌, ◌*◌, ◌<◌, ◌≤◌, true, false, ◌&&◌, leb, ◌⊎◌, List, [], ◌∷◌, ◌++◌, length, get_or, set, Some, None, Option, sym, refl, ap, ◌∙◌, subst, ap₂, inl, inr, arith}
 use Rattle.std.proofs.lemmas.List.{set-get_or}
 use Rattle.std.proofs.lemmas.Bool.{cond-true, cond-false, and_from, le-leb, lt-leb, and_left, and_right}
 use Rattle.kinds.specs.Kinds.{KeyKind, ValueKind}
-use Rattle.kinds.specs.Refusals as refusals
-use Rattle.kinds.specs.Refusals.{Refused}
-use Rattle.model.specs.Maps.{Map, Sound, look, same_found, same_map}
+use Rattle.model.specs.Maps.{Map, Sound}
 use Rattle.model.specs.Tries.{crowded, Lawful}
-use Rattle.model.specs.Sharing.{Part, Shared, shared, kept_or, no_share}
-use Rattle.model.specs.Accounts.{Version, Place, draft, Account, nth, whole, free_nodes, free_entries}
-use Rattle.model.specs.Calls.{Call, took, Outcome, outcome, after, refuse, leave, on_uncrowded, result, version}
+use Rattle.model.specs.Sharing.{Part, Shared, shared}
+use Rattle.model.specs.Accounts.{Version, draft, Account, nth, whole, free_nodes, free_entries}
+use Rattle.model.specs.Calls.{took, Outcome, outcome, after, refuse, leave, on_uncrowded, result, version}
 use Rattle.model.specs.Runs.{Made}
 use Rattle.model.proofs.Promises.{few_settings}
 use Rattle.model.proofs.Maps.Crowds.{uncrowded_remove}
 use Rattle.model.proofs.Marks.Keys.{same_map_true}
-use Rattle.plans.specs.Plans.{edited, crowd, portion, Told}
+use Rattle.plans.specs.Plans.{edited, portion, Told}
 use Rattle.plans.proofs.Crowds.{crowd_is_crowded, uncrowded_crowd}
 use Rattle.plans.proofs.Twice.{portion_twice, portion_root}
 use Rattle.branches.specs.declared.branch.Branch.{Branch}
 use Rattle.branches.specs.declared.branch.Branch.TheVariants.{Nothing, Entry, Child}
 use Rattle.branches.specs.States.{Tables, Notes, Sits, Under, Led}
-use Rattle.branches.specs.Branches.{Is, Built, part_of, node_of, entry_of}
+use Rattle.branches.specs.Branches.{Is, part_of, node_of, entry_of}
 use Rattle.branches.proofs.Kept.{portion_kept}
 use Rattle.branches.proofs.Settings.{edited_same}
 use Rattle.edits.specs.declared.estimate.Estimate.{Estimate}
 use Rattle.edits.specs.Sets.{Seen, Estimated, Ready, Done, ValueReads, tally}
 use Rattle.edits.proofs.Turns.{reads}
 use Rattle.store.specs.declared.spot.Spot.{Spot}
-use Rattle.store.specs.declared.spot.Spot.TheVariants.{Empty, Draft, Published}
-use Rattle.store.specs.Stores.{State, owners, Represents, Answered}
+use Rattle.store.specs.declared.spot.Spot.TheVariants.{Empty, Draft}
+use Rattle.store.specs.Stores.{State, owners, Represents}
 use Rattle.store.specs.Spots.{root_of, GivenUp}
 use Rattle.store.specs.Sets.{set_call}
 use Rattle.store.proofs.Free.{free_is}
 use Rattle.store.proofs.Judging.{no_place, is_place, draft_is_draft, live_draft}
 use Rattle.store.proofs.Places.{owners_few}
 use Rattle.store.proofs.Reading.{at_draft, not_draft, lawful_draft, lawful_sound}
-use Rattle.store.proofs.Steps.{clear_now, refused_step, replaced, turned}
+use Rattle.store.proofs.Steps.{clear_now, replaced, turned}
 
 pub le_of : (a b c : ℕ) → a ≡ b → a ≤ c → b ≤ c
 le_of a b c e h = omega arith

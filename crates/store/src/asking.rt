@@ -1,7 +1,7 @@
 // Calls that ask: they change nothing.
 ghost use Rattle.store.specs.Views.{state};
 ghost use Rattle.store.specs.Stores.{Started, Answered};
-ghost use Rattle.store.specs.Answers.{found-shown, counted-shown};
+ghost use Rattle.store.specs.Answers.{found_shown, counted_shown};
 ghost use Rattle.model.specs.Calls.{LookUp, Count, Free, spare};
 
 use super::spot::Spot;
@@ -13,7 +13,7 @@ impl<'a, K: Key, V: Value> Store<'a, K, V> {
     // The value of a key at a live place, or nothing.
     pub(crate) fn look_up_at(&self, place: u32, key: &K) -> Result<Option<V>, Refusal>
         requires { Started K.Key.kind V.Value.kind K.Key.bytes V.Value.bytes (state self.now) }
-        ensures { Answered K.Key.kind V.Value.kind K.Key.bytes V.Value.bytes (state self.now) (state self.now) (LookUp place (K.Key.bytes key.now)) (found-shown V.Value.bytes result) }
+        ensures { Answered K.Key.kind V.Value.kind K.Key.bytes V.Value.bytes (state self.now) (state self.now) (LookUp place (K.Key.bytes key.now)) (found_shown V.Value.bytes result) }
     {
         match self.spot_at(place)? {
             Spot::Empty => Err(Refusal::NotReadable),
@@ -26,7 +26,7 @@ impl<'a, K: Key, V: Value> Store<'a, K, V> {
     // How many settings a live place has.
     pub(crate) fn count_at(&self, place: u32) -> Result<usize, Refusal>
         requires { Started K.Key.kind V.Value.kind K.Key.bytes V.Value.bytes (state self.now) }
-        ensures { Answered K.Key.kind V.Value.kind K.Key.bytes V.Value.bytes (state self.now) (state self.now) (Count place) (counted-shown result) }
+        ensures { Answered K.Key.kind V.Value.kind K.Key.bytes V.Value.bytes (state self.now) (state self.now) (Count place) (counted_shown result) }
     {
         match self.spot_at(place)? {
             Spot::Empty => Err(Refusal::NotReadable),

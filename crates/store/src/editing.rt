@@ -1,7 +1,7 @@
 // The calls of a store: drafts in hand, published places by number.
 ghost use Rattle.store.specs.Views.{state};
 ghost use Rattle.store.specs.Stores.{Started, Answered};
-ghost use Rattle.store.specs.Answers.{done-shown, took-shown, found-shown, counted-shown};
+ghost use Rattle.store.specs.Answers.{done_shown, took_shown, found_shown, counted_shown};
 ghost use Rattle.store.specs.Drafts.{opened_shown, Numbered, taken_shown, ComesBack};
 ghost use Rattle.model.specs.Calls.{Open, OpenFrom, Put, Remove, Publish, Abandon, Retire, LookUp, Count, Free, spare};
 
@@ -33,7 +33,7 @@ impl<'a, K: Key, V: Value> Store<'a, K, V> {
     // Gives a key of a draft a value, new or replacing; answers the nodes and the entries that it took.
     pub fn put(&mut self, draft: &Draft, key: &K, value: &V) -> Result<(usize, usize), Refusal>
         requires { Started K.Key.kind V.Value.kind K.Key.bytes V.Value.bytes (state self.old) }
-        ensures { Answered K.Key.kind V.Value.kind K.Key.bytes V.Value.bytes (state self.old) (state self.new) (Put draft.now.place (K.Key.bytes key.now) (V.Value.bytes value.now)) (took-shown result) }
+        ensures { Answered K.Key.kind V.Value.kind K.Key.bytes V.Value.bytes (state self.old) (state self.new) (Put draft.now.place (K.Key.bytes key.now) (V.Value.bytes value.now)) (took_shown result) }
     {
         self.put_at(draft.number(), key, value)
     }
@@ -41,7 +41,7 @@ impl<'a, K: Key, V: Value> Store<'a, K, V> {
     // Takes a key out of a draft; answers the nodes and the entries that it took.
     pub fn remove(&mut self, draft: &Draft, key: &K) -> Result<(usize, usize), Refusal>
         requires { Started K.Key.kind V.Value.kind K.Key.bytes V.Value.bytes (state self.old) }
-        ensures { Answered K.Key.kind V.Value.kind K.Key.bytes V.Value.bytes (state self.old) (state self.new) (Remove draft.now.place (K.Key.bytes key.now)) (took-shown result) }
+        ensures { Answered K.Key.kind V.Value.kind K.Key.bytes V.Value.bytes (state self.old) (state self.new) (Remove draft.now.place (K.Key.bytes key.now)) (took_shown result) }
     {
         self.remove_at(draft.number(), key)
     }
@@ -79,7 +79,7 @@ impl<'a, K: Key, V: Value> Store<'a, K, V> {
     // Empties a published place.
     pub fn retire(&mut self, place: u32) -> Result<(), Refusal>
         requires { Started K.Key.kind V.Value.kind K.Key.bytes V.Value.bytes (state self.old) }
-        ensures { Answered K.Key.kind V.Value.kind K.Key.bytes V.Value.bytes (state self.old) (state self.new) (Retire place) (done-shown result) }
+        ensures { Answered K.Key.kind V.Value.kind K.Key.bytes V.Value.bytes (state self.old) (state self.new) (Retire place) (done_shown result) }
     {
         self.retire_at(place)
     }
@@ -87,7 +87,7 @@ impl<'a, K: Key, V: Value> Store<'a, K, V> {
     // The value of a key at a live place, or nothing.
     pub fn look_up(&self, place: u32, key: &K) -> Result<Option<V>, Refusal>
         requires { Started K.Key.kind V.Value.kind K.Key.bytes V.Value.bytes (state self.now) }
-        ensures { Answered K.Key.kind V.Value.kind K.Key.bytes V.Value.bytes (state self.now) (state self.now) (LookUp place (K.Key.bytes key.now)) (found-shown V.Value.bytes result) }
+        ensures { Answered K.Key.kind V.Value.kind K.Key.bytes V.Value.bytes (state self.now) (state self.now) (LookUp place (K.Key.bytes key.now)) (found_shown V.Value.bytes result) }
     {
         self.look_up_at(place, key)
     }
@@ -95,7 +95,7 @@ impl<'a, K: Key, V: Value> Store<'a, K, V> {
     // How many settings a live place has.
     pub fn count(&self, place: u32) -> Result<usize, Refusal>
         requires { Started K.Key.kind V.Value.kind K.Key.bytes V.Value.bytes (state self.now) }
-        ensures { Answered K.Key.kind V.Value.kind K.Key.bytes V.Value.bytes (state self.now) (state self.now) (Count place) (counted-shown result) }
+        ensures { Answered K.Key.kind V.Value.kind K.Key.bytes V.Value.bytes (state self.now) (state self.now) (Count place) (counted_shown result) }
     {
         self.count_at(place)
     }

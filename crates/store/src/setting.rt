@@ -1,7 +1,7 @@
 // Calls that set a key of a draft.
 ghost use Rattle.store.specs.Views.{state};
 ghost use Rattle.store.specs.Stores.{Started, Answered};
-ghost use Rattle.store.specs.Answers.{took-shown};
+ghost use Rattle.store.specs.Answers.{took_shown};
 ghost use Rattle.store.specs.Sets.{set_call};
 ghost use Rattle.edits.specs.Sets.{value_bytes};
 ghost use Rattle.model.specs.Calls.{Put, Remove};
@@ -21,7 +21,7 @@ impl<'a, K: Key, V: Value> Store<'a, K, V> {
         value: &V,
     ) -> Result<(usize, usize), Refusal>
         requires { Started K.Key.kind V.Value.kind K.Key.bytes V.Value.bytes (state self.old) }
-        ensures { Answered K.Key.kind V.Value.kind K.Key.bytes V.Value.bytes (state self.old) (state self.new) (Put place (K.Key.bytes key.now) (V.Value.bytes value.now)) (took-shown result) }
+        ensures { Answered K.Key.kind V.Value.kind K.Key.bytes V.Value.bytes (state self.old) (state self.new) (Put place (K.Key.bytes key.now) (V.Value.bytes value.now)) (took_shown result) }
     {
         self.set_at(place, key, Some(*value))
     }
@@ -29,7 +29,7 @@ impl<'a, K: Key, V: Value> Store<'a, K, V> {
     // Takes a key out of a draft; answers the nodes and the entries that it took.
     pub(crate) fn remove_at(&mut self, place: u32, key: &K) -> Result<(usize, usize), Refusal>
         requires { Started K.Key.kind V.Value.kind K.Key.bytes V.Value.bytes (state self.old) }
-        ensures { Answered K.Key.kind V.Value.kind K.Key.bytes V.Value.bytes (state self.old) (state self.new) (Remove place (K.Key.bytes key.now)) (took-shown result) }
+        ensures { Answered K.Key.kind V.Value.kind K.Key.bytes V.Value.bytes (state self.old) (state self.new) (Remove place (K.Key.bytes key.now)) (took_shown result) }
     {
         self.set_at(place, key, None)
     }
@@ -37,7 +37,7 @@ impl<'a, K: Key, V: Value> Store<'a, K, V> {
     // Sets a key of a draft to a value, or to nothing. What that takes is worked out and judged first; the old version is given up once the new one stands.
     fn set_at(&mut self, place: u32, key: &K, value: Option<V>) -> Result<(usize, usize), Refusal>
         requires { Started K.Key.kind V.Value.kind K.Key.bytes V.Value.bytes (state self.old) }
-        ensures { Answered K.Key.kind V.Value.kind K.Key.bytes V.Value.bytes (state self.old) (state self.new) (set_call place (K.Key.bytes key.now) (value_bytes V.Value.bytes value)) (took-shown result) }
+        ensures { Answered K.Key.kind V.Value.kind K.Key.bytes V.Value.bytes (state self.old) (state self.new) (set_call place (K.Key.bytes key.now) (value_bytes V.Value.bytes value)) (took_shown result) }
     {
         let root = match self.spot_at(place)? {
             Spot::Draft(root) => root,

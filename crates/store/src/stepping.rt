@@ -1,6 +1,6 @@
 // One call by the number of its place.
 ghost use Rattle.std.specs.Prelude.{◌≡◌, ℕ, List};
-ghost use Rattle.store.specs.Answers.{answer-shown, call-shown, counted-shown, done-shown, found-shown, took-shown};
+ghost use Rattle.store.specs.Answers.{answer_shown, call_shown, counted_shown, done_shown, found_shown, took_shown};
 ghost use Rattle.store.specs.Stores.{Started, Answered};
 ghost use Rattle.store.specs.Views.{state};
 
@@ -11,7 +11,7 @@ use kinds::{Key, Refusal, Value};
 // What each call's own result answers.
 
 fn done<V: Copy>(res: Result<(), Refusal>) -> Answer<V>
-    ensures { (vb : V → List ℕ) → answer-shown vb result ≡ done-shown res }
+    ensures { (vb : V → List ℕ) → answer_shown vb result ≡ done_shown res }
 {
     match res {
         Ok(()) => Answer::Done,
@@ -20,7 +20,7 @@ fn done<V: Copy>(res: Result<(), Refusal>) -> Answer<V>
 }
 
 fn took<V: Copy>(res: Result<(usize, usize), Refusal>) -> Answer<V>
-    ensures { (vb : V → List ℕ) → answer-shown vb result ≡ took-shown res }
+    ensures { (vb : V → List ℕ) → answer_shown vb result ≡ took_shown res }
 {
     match res {
         Ok((nodes, entries)) => Answer::Took(nodes, entries),
@@ -29,7 +29,7 @@ fn took<V: Copy>(res: Result<(usize, usize), Refusal>) -> Answer<V>
 }
 
 fn found<V: Copy>(res: Result<Option<V>, Refusal>) -> Answer<V>
-    ensures { (vb : V → List ℕ) → answer-shown vb result ≡ found-shown vb res }
+    ensures { (vb : V → List ℕ) → answer_shown vb result ≡ found_shown vb res }
 {
     match res {
         Ok(value) => Answer::Found(value),
@@ -38,7 +38,7 @@ fn found<V: Copy>(res: Result<Option<V>, Refusal>) -> Answer<V>
 }
 
 fn counted<V: Copy>(res: Result<usize, Refusal>) -> Answer<V>
-    ensures { (vb : V → List ℕ) → answer-shown vb result ≡ counted-shown res }
+    ensures { (vb : V → List ℕ) → answer_shown vb result ≡ counted_shown res }
 {
     match res {
         Ok(count) => Answer::Counted(count),
@@ -49,7 +49,7 @@ fn counted<V: Copy>(res: Result<usize, Refusal>) -> Answer<V>
 // Makes one call by the number of its place.
 pub(crate) fn step<K: Key, V: Value>(store: &mut Store<K, V>, call: &Call<K, V>) -> Answer<V>
     requires { Started K.Key.kind V.Value.kind K.Key.bytes V.Value.bytes (state store.old) }
-    ensures { Answered K.Key.kind V.Value.kind K.Key.bytes V.Value.bytes (state store.old) (state store.new) (call-shown K.Key.bytes V.Value.bytes call.now) (answer-shown V.Value.bytes result) }
+    ensures { Answered K.Key.kind V.Value.kind K.Key.bytes V.Value.bytes (state store.old) (state store.new) (call_shown K.Key.bytes V.Value.bytes call.now) (answer_shown V.Value.bytes result) }
 {
     match call {
         Call::Open(place) => done(store.open_at(*place)),

@@ -1,4 +1,4 @@
-use Rattle.std.proofs.Common.{◌≡◌, ℕ, ◌-◌, ◌<◌, sym, refl, ap, ◌∙◌, ap₂, arith}
+use Rattle.std.proofs.Common.{◌<◌, refl, ap, ap₂, arith}
 use Rattle.branches.specs.States.{tables_of}
 use Rattle.edits.specs.Sets.{value_bytes}
 use Rattle.edits.proofs.Alone.{entry_room, done_some, done_none}

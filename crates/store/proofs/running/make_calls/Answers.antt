@@ -13,7 +13,7 @@ loop-i-init g c = made_none g.K.Key.kind g.V.Value.kind g.K.Key.bytes g.V.Value.
 pub loop-i-preserved : goal.loop-i-preserved
 loop-i-preserved g c =
     made_more g.K.Key.kind g.V.Value.kind g.K.Key.bytes g.V.Value.bytes _ _ _ _ _ _ _ _ _ _
-    c.loop-i.invariant (omega arith) (omega arith) c.index-calls-i.is c.step-answer.ensures c.put-answer.ensures
+    c.loop-i.invariant (omega arith) (omega arith) c.index-calls-i.is c.step-answer.ensures c.put_answer.ensures
 
 pub returns : goal.returns
 returns g c = record {
