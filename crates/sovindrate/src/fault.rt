@@ -2,7 +2,7 @@
 use std::alloc::{AllocError, AllocFailed};
 use std::{fmt, io};
 
-#[derive(Debug, Drop)]
+#[derive(Drop)]
 pub enum Fault {
     Memory,
     Io(io::Error),

@@ -10,6 +10,7 @@ mod spelled;
 mod unite;
 
 use fault::Fault;
+use std::process::ExitCode;
 use std::{env, fs, io};
 
 // The text of the file that is named, or standard input where none is.
@@ -29,12 +30,12 @@ fn run(rt: &HostRuntime) -> Result<(), Fault> {
     Ok(())
 }
 
-fn main(rt: HostRuntime) -> Result<(), Fault> {
+fn main(rt: HostRuntime) -> ExitCode {
     match run(&rt) {
-        Ok(()) => Ok(()),
+        Ok(()) => ExitCode::SUCCESS,
         Err(fault) => {
             let _ = eprintln!(rt; "{fault}");
-            Err(fault)
+            ExitCode::FAILURE
         }
     }
 }
