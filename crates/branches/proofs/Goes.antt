@@ -16,7 +16,7 @@ use Rattle.plans.specs.Plans.{bushy}
 use Rattle.branches.specs.declared.branch.Branch.{Branch}
 use Rattle.branches.specs.declared.branch.Branch.TheVariants.{Nothing, Entry, Child}
 use Rattle.branches.specs.States.{Tables, Notes, Sits}
-use Rattle.branches.specs.Branches.{Is, Single, SomePart, SomeEntry, SettingRead, Goes_on}
+use Rattle.branches.specs.Branches.{Is, Single, SomePart, SomeEntry, SettingRead, GoesOn}
 use Rattle.branches.proofs.Below.{by_note, child_on, entry_on, nothing_on}
 use Rattle.branches.proofs.Ends.{single_stays, single_off}
 
@@ -57,12 +57,12 @@ module _ {X Y : Type 0} (K : KeyKind) (kb : X → List ℕ) (vb : Y → List ℕ
       record { tables = T; notes = s.notes; roots = s.roots; in_hand = s.in_hand; sits = s.sits; entries_are = refl; held = is.1.held }
 
   -- what it is told to be goes on as it does
-  pub goes_as : (b d : Branch) (level g : ℕ) (c : Branch) → b ≡ d → Goes_on K kb vb T d level g c → Goes_on K kb vb T b level g c
-  goes_as b d level g c e = subst (λ (x : Branch). Goes_on K kb vb T x level g c) (sym e)
+  pub goes_as : (b d : Branch) (level g : ℕ) (c : Branch) → b ≡ d → GoesOn K kb vb T d level g c → GoesOn K kb vb T b level g c
+  goes_as b d level g c e = subst (λ (x : Branch). GoesOn K kb vb T x level g c) (sym e)
 
   -- ---- nothing
 
-  pub goes_nothing : (level g : ℕ) → Goes_on K kb vb T Nothing level g Nothing
+  pub goes_nothing : (level g : ℕ) → GoesOn K kb vb T Nothing level g Nothing
   goes_nothing level g = record { on = λ N R E S p a d l is. ap (below K p g) is }
 
   -- ---- an entry
@@ -78,13 +78,13 @@ module _ {X Y : Type 0} (K : KeyKind) (kb : X → List ℕ) (vb : Y → List ℕ
       key_digit = ap (λ (n : ℕ). digit n (8 - level)) (sym h_is) ∙ sym d_is
 
       -- goes on at the digit of its key
-      pub goes_entry : d ≡ g → Goes_on K kb vb T (Entry id) level g (Entry id)
+      pub goes_entry : d ≡ g → GoesOn K kb vb T (Entry id) level g (Entry id)
       goes_entry e = record {
         on = λ N R E S p a deep l is. (omega (arith, is.0), single_stays K kb vb T N R E S id.0 p g a is.1 (eq-eqb _ g (test_is N R E S p deep ∙ key_digit ∙ e)));
       }
 
       -- and nowhere else
-      pub goes_past : (d ≡ g → ⊥) → Goes_on K kb vb T (Entry id) level g Nothing
+      pub goes_past : (d ≡ g → ⊥) → GoesOn K kb vb T (Entry id) level g Nothing
       goes_past n = record {
         on = λ N R E S p a deep l is. single_off K kb vb T N R E S id.0 p g a is.1 (ne_eqb _ g (λ e. n (sym (test_is N R E S p deep ∙ key_digit) ∙ e)));
       }
@@ -96,7 +96,7 @@ module _ {X Y : Type 0} (K : KeyKind) (kb : X → List ℕ) (vb : Y → List ℕ
     node = cell T.nodes id.0
 
     -- goes on by its child
-    pub goes_child : (child : NodeId) → bit node.nodemap g ≡ true → child.0 ≡ get_or node.children (rank_of node.nodemap g) 0 → Goes_on K kb vb T (Child id) level g (Child child)
+    pub goes_child : (child : NodeId) → bit node.nodemap g ≡ true → child.0 ≡ get_or node.children (rank_of node.nodemap g) 0 → GoesOn K kb vb T (Child id) level g (Child child)
     goes_child child b at = record {
       on = λ N R E S p a d l is.
           let short : length p < 8 = omega arith in
@@ -108,7 +108,7 @@ module _ {X Y : Type 0} (K : KeyKind) (kb : X → List ℕ) (vb : Y → List ℕ
     }
 
     -- by its entry
-    pub goes_single : (entry : EntryId) → bit node.datamap g ≡ true → entry.0 ≡ get_or node.entries (rank_of node.datamap g) 0 → Goes_on K kb vb T (Child id) level g (Entry entry)
+    pub goes_single : (entry : EntryId) → bit node.datamap g ≡ true → entry.0 ≡ get_or node.entries (rank_of node.datamap g) 0 → GoesOn K kb vb T (Child id) level g (Entry entry)
     goes_single entry b at = record {
       on = λ N R E S p a d l is.
           let short : length p < 8 = omega arith in
@@ -117,7 +117,7 @@ module _ {X Y : Type 0} (K : KeyKind) (kb : X → List ℕ) (vb : Y → List ℕ
     }
 
     -- or not at all
-    pub goes_none : bit node.nodemap g ≡ false → bit node.datamap g ≡ false → Goes_on K kb vb T (Child id) level g Nothing
+    pub goes_none : bit node.nodemap g ≡ false → bit node.datamap g ≡ false → GoesOn K kb vb T (Child id) level g Nothing
     goes_none b o = record {
       on = λ N R E S p a d l is.
           let short : length p < 8 = omega arith in

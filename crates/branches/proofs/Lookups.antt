@@ -22,7 +22,7 @@ use Rattle.plans.proofs.Digits.{falls, look_at}
 use Rattle.branches.specs.declared.branch.Branch.{Branch}
 use Rattle.branches.specs.declared.branch.Branch.TheVariants.{Entry, Child}
 use Rattle.branches.specs.States.{Tables, Notes, Sits}
-use Rattle.branches.specs.Branches.{Is, SomePart, SomeEntry, SettingRead, Goes_on}
+use Rattle.branches.specs.Branches.{Is, SomePart, SomeEntry, SettingRead, GoesOn}
 use Rattle.branches.specs.Asked.{LookedUp}
 
 -- ---- one setting first
@@ -62,7 +62,7 @@ module _ {X Y : Type 0} (K : KeyKind) (kb : X → List ℕ) (vb : Y → List ℕ
 
   -- ---- by the digit of the key
 
-  module _ (b : Branch) (level g : ℕ) (c : Branch) (on : Goes_on K kb vb T b level g c) (some_level : 0 < level) where
+  module _ (b : Branch) (level g : ℕ) (c : Branch) (on : GoesOn K kb vb T b level g c) (some_level : 0 < level) where
     pub looked_below : (k : List ℕ) (h : ℕ) → h ≡ K.hash k → g ≡ digit h (8 - level) → (r : Option Y) → LookedUp K kb vb T c (level - 1) k r → LookedUp K kb vb T b level k r
     looked_below k h h_is g_is r L = record {
       found = λ N R E S p a d is.

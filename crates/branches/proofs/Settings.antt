@@ -180,10 +180,10 @@ entry_else n a rest s other =
 pub entry_new : (n : ℕ) (a : Part) (s : Setting) → (look a.settings s.key ≡ Some s.value → ⊥) → entry_from n (a ∷ []) s ≡ new_entry n s
 entry_new n a s other = entry_else n a [] s other
 
-pub mem_getD : {A : Type 0} (xs : List A) (j : ℕ) (d : A) → j < length xs → Mem (get_or xs j d) xs
-mem_getD [] j d h = absurd (omega arith)
-mem_getD (x ∷ xs) zero d h = Memᴰ.head refl
-mem_getD (x ∷ xs) (suc j) d h = Memᴰ.tail (mem_getD xs j d (omega arith))
+pub mem_at : {A : Type 0} (xs : List A) (j : ℕ) (d : A) → j < length xs → Mem (get_or xs j d) xs
+mem_at [] j d h = absurd (omega arith)
+mem_at (x ∷ xs) zero d h = Memᴰ.head refl
+mem_at (x ∷ xs) (suc j) d h = Memᴰ.tail (mem_at xs j d (omega arith))
 
 -- ---- entries in a row: their marks are those of the source whose entries they are
 
@@ -208,7 +208,7 @@ module _ {X : Type 0} (K : KeyKind) (label : X → Marked) (setting : X → Sett
       ]
 
   pub mark_at : (xs : List X) → Labelled xs → Rises K (map setting xs) → (j : ℕ) (d : X) → j < length xs → mark_of (map label xs) (setting (get_or xs j d)).key ≡ (label (get_or xs j d)).mark
-  mark_at xs l r j d h = mark_mem xs l r (get_or xs j d) (mem_getD xs j d h)
+  mark_at xs l r j d h = mark_mem xs l r (get_or xs j d) (mem_at xs j d h)
 
   -- some of the entries of a source, as entries of a new node
   module _ (n : ℕ) (a : Part) (rest : List Part) (xs : List X) (labels : map label xs ≡ a.entries) (settings : map setting xs ≡ a.settings) (l : Labelled xs) (rises : Rises K a.settings) where

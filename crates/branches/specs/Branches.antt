@@ -80,7 +80,7 @@ pub record Built {X Y : Type 0} (K : KeyKind) (kb : X → List ℕ) (vb : Y → 
   pub entry_cost : U.entry_spare + s.new_entries ≡ T.entry_spare
 
 -- a branch goes on by a digit as another, whatever part it is
-pub record Goes_on {X Y : Type 0} (K : KeyKind) (kb : X → List ℕ) (vb : Y → List ℕ) (T : Tables X Y) (b : Branch) (level g : ℕ) (c : Branch) : Type 0 where
+pub record GoesOn {X Y : Type 0} (K : KeyKind) (kb : X → List ℕ) (vb : Y → List ℕ) (T : Tables X Y) (b : Branch) (level g : ℕ) (c : Branch) : Type 0 where
   pub on : (N : Notes) (R E : List ℕ) → Sits K kb vb T N R E → (p : List ℕ) (a : Part) → length p + level ≡ 8 → 0 < level → Is T N b level p a → Is T N c (level - 1) (p ++ (g ∷ [])) (below K p g a)
 
 -- a branch is some part in tables with room for one more reference to it

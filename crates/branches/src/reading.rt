@@ -1,7 +1,7 @@
 // Reading the tables: the setting of an entry, and what a branch has at a digit.
 ghost use Rattle.std.specs.Prelude.{◌≡◌, ◌-◌, ◌<◌, ◌≤◌};
 ghost use Rattle.model.specs.Tries.{digit as hash_digit};
-ghost use Rattle.branches.specs.Branches.{SomePart, SomeEntry, SettingRead, Goes_on};
+ghost use Rattle.branches.specs.Branches.{SomePart, SomeEntry, SettingRead, GoesOn};
 ghost use Rattle.branches.specs.States.{tables_of};
 
 use super::branch::Branch;
@@ -42,7 +42,7 @@ pub fn at_digit<K: Key, V: Value>(
     requires digit { digit < 16 }
     requires level { (1 ≤ level) × (level ≤ 8) }
     requires part { SomePart K.Key.kind K.Key.bytes V.Value.bytes (tables_of nodes.now entries.now) branch level }
-    ensures { Goes_on K.Key.kind K.Key.bytes V.Value.bytes (tables_of nodes.now entries.now) branch level digit result }
+    ensures { GoesOn K.Key.kind K.Key.bytes V.Value.bytes (tables_of nodes.now entries.now) branch level digit result }
 {
     match branch {
         Branch::Nothing => Branch::Nothing,

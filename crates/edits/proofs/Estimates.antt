@@ -22,7 +22,7 @@ use Rattle.plans.proofs.Tallies.{exact, summed_more, told_exact, told_is, told_b
 use Rattle.branches.specs.declared.branch.Branch.{Branch}
 use Rattle.branches.specs.declared.branch.Branch.TheVariants.{Nothing, Entry, Child}
 use Rattle.branches.specs.States.{Tables, Notes}
-use Rattle.branches.specs.Branches.{Is, Goes_on}
+use Rattle.branches.specs.Branches.{Is, GoesOn}
 use Rattle.branches.proofs.Gathering.{bushy_many}
 use Rattle.edits.specs.declared.estimate.Estimate.{Estimate}
 use Rattle.edits.specs.Sets.{Seen, Estimated, tally}
@@ -115,7 +115,7 @@ module _ {X Y : Type 0} (K : KeyKind) (V : ValueKind) (kb : X → List ℕ) (vb 
       (omega (arith, w.1, r), omega (arith, w.2, result_few))
 
   -- ---- at a digit
-  module _ (g : ℕ) (small : g < 16) (c : Branch) (on : Goes_on K kb vb T b level g c) where
+  module _ (g : ℕ) (small : g < 16) (c : Branch) (on : GoesOn K kb vb T b level g c) where
     below_is : Is T q.notes c h (p ++ (g ∷ [])) (below K p g a)
     below_is = on.on q.notes q.roots q.in_hand q.sits p a q.deep tall q.is
 
@@ -188,7 +188,7 @@ module _ {X Y : Type 0} (K : KeyKind) (V : ValueKind) (kb : X → List ℕ) (vb 
   digit_at q hash digit' g e f l =
       ap₂ digit (sym e) (let z : length q.prefix ≡ 8 - level = omega (arith, q.deep) in z) ∙ sym f ∙ sym l
 
-  module _ (tall : 0 < level) (g : ℕ) (small : g < 16) (c : Branch) (on : Goes_on K kb vb T b level g c) (hash digit' : ℕ) (is_hash : hash ≡ K.hash k) (is_digit : digit' ≡ digit hash (8 - level)) where
+  module _ (tall : 0 < level) (g : ℕ) (small : g < 16) (c : Branch) (on : GoesOn K kb vb T b level g c) (hash digit' : ℕ) (is_hash : hash ≡ K.hash k) (is_digit : digit' ≡ digit hash (8 - level)) where
     pub digit_set : g ≡ digit' → (r s : Estimate) → s ≡ r → Estimated K V kb vb T c k x (level - 1) r → DigitTold K V kb vb T b k x level g s
     digit_set l r s same_as d = record { is = λ q n. ap tally same_as ∙ child_is K V kb vb T b k x level q tall g small c on (digit_at q hash digit' g is_hash is_digit l) r d n }
 

@@ -20,7 +20,7 @@ use Rattle.branches.specs.declared.branch.Branch.{Branch}
 use Rattle.branches.specs.declared.branch.Branch.TheVariants.{Nothing, Entry, Child}
 use Rattle.branches.specs.declared.handful.Handful.{Handful}
 use Rattle.branches.specs.States.{Tables, Notes}
-use Rattle.branches.specs.Branches.{Is, Built, Goes_on, SomePart, Stays, Kept, node_of, entry_of}
+use Rattle.branches.specs.Branches.{Is, Built, GoesOn, SomePart, Stays, Kept, node_of, entry_of}
 use Rattle.branches.specs.Hands.{Gathered}
 use Rattle.branches.specs.Handfuls.{Bundled, nothing_in_hand, with_branch, is_entry, is_child}
 use Rattle.branches.proofs.Growing.{is_grown}
@@ -147,7 +147,7 @@ module _ {X Y : Type 0} (K : KeyKind) (V : ValueKind) (kb : X → List ℕ) (vb 
     pub some_part : SomePart K kb vb U b level
     some_part = record { notes = N; roots = P.ks ++ q.roots; in_hand = P.xs ++ q.in_hand; sits = P.gathered.sits; prefix = p; part = a; deep = q.deep; is = here }
 
-    module _ (c : Branch) (on : Goes_on K kb vb U b level g c) where
+    module _ (c : Branch) (on : GoesOn K kb vb U b level g c) where
       below_is : Is U N c h (p ++ (g ∷ [])) (below K p g a)
       below_is = on.on N (P.ks ++ q.roots) (P.xs ++ q.in_hand) P.gathered.sits p a q.deep tall here
 
@@ -247,7 +247,7 @@ module _ {X Y : Type 0} (K : KeyKind) (V : ValueKind) (kb : X → List ℕ) (vb 
   pub digit_away : (q : Ready K V kb vb T b k x level) (hash digit' g : ℕ) → hash ≡ K.hash k → digit' ≡ digit hash (8 - level) → (g ≡ digit' → ⊥) → digit (K.hash k) (length q.prefix) ≡ g → ⊥
   digit_away q hash digit' g e f n w = n (sym w ∙ ap₂ digit (sym e) (let z : length q.prefix ≡ 8 - level = omega (arith, q.deep) in z) ∙ sym f)
 
-  module _ (g : ℕ) (hand : Handful) (U : Tables X Y) (I : Underway K V kb vb T b k x level g hand U) (small : g < 16) (c : Branch) (on : Goes_on K kb vb U b level g c) (next : Handful) (hash digit' : ℕ) (is_hash : hash ≡ K.hash k) (is_digit : digit' ≡ digit hash (8 - level)) (W : Tables X Y) where
+  module _ (g : ℕ) (hand : Handful) (U : Tables X Y) (I : Underway K V kb vb T b k x level g hand U) (small : g < 16) (c : Branch) (on : GoesOn K kb vb U b level g c) (next : Handful) (hash digit' : ℕ) (is_hash : hash ≡ K.hash k) (is_digit : digit' ≡ digit hash (8 - level)) (W : Tables X Y) where
     pub underway_set : g ≡ digit' → (r s : Branch) → s ≡ r → (Z : Tables X Y) → Z ≡ W → Done K V kb vb U c k x (level - 1) r W → next ≡ with_branch hand g s → Underway K V kb vb T b k x level (g + 1) next Z
     underway_set l r s same Z z d e =
         subst (Underway K V kb vb T b k x level (g + 1) next) (sym z) (record {

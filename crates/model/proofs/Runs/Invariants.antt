@@ -81,7 +81,7 @@ module _ (K : KeyKind) (V : ValueKind) where
         comes = run_one_more r.calls (fresh r.nodes r.entries) c ∙ ap (λ b. after K V b c) r.comes;
       }
 
-  -- as `reached-keeps`, where a call has only to keep it in reached accounts
+  -- as `reached_keeps`, where a call has only to keep it in reached accounts
   pub reached_keeps_on : (I : Account → Type 0) → ((a : Account) → Reached K V a → (c : Call) → Made K V c → I a → I (after K V a c)) →
       ((n e : ℕ) → n ≤ 65535 → e ≤ 65535 → I (fresh n e)) → (a : Account) → Reached K V a → I a
   reached_keeps_on I keeps start a r =
