@@ -12,7 +12,7 @@ use Rattle.tables.specs.Heaps.{Nodes, Entries, Entryless, inner, inner_entries, 
 use Rattle.tables.specs.Walks.{walk, after, cleared, EntriesReleased, Cleared}
 use Rattle.tables.proofs.Occurrences.{hit_same, hit_other, occ_nil, occ_cons, occ_append, split_at}
 use Rattle.tables.proofs.Chains.{chain_kept}
-use Rattle.tables.proofs.NodeCounts.{length_listed, listed_at, sum_same, cell_past, at_set}
+use Rattle.tables.proofs.NodeCounts.{sum_same, cell_past, at_set}
 use Rattle.tables.proofs.Walking.{walk_more, after_more, walk_linked, walk_within, after_walked}
 
 -- ---- one cell is cleared
@@ -115,25 +115,18 @@ module _ {K V : Type 0} where
       here : (i : ℕ) → 0 < occ i (xs ++ (x ∷ [])) → cell bs i ≡ cleared (cell cs i)
       here i k = pick i k (some_or_none (occ i (x ∷ [])))
 
--- ---- the entries of a node are given up by rank
+-- ---- a row of references to entries is given up, one after another
 
-module _ {K V : Type 0} (node : NodeCell) (es : List (EntryCell K V)) (f s : ℕ) (fs : List (EntryCell K V)) (g t k : ℕ) (inv : EntriesReleased (take k (singles node)) es f s fs g t) where
-  slot_inside : k < ones node.datamap → k < length (singles node)
-  slot_inside p = omega (arith, length_listed node.datamap node.entries)
+module _ {K V : Type 0} (xs : List ℕ) (es : List (EntryCell K V)) (f s : ℕ) (fs : List (EntryCell K V)) (g t k : ℕ) (inv : EntriesReleased (take k xs) es f s fs g t) where
+  pub entry_due : (cs : List NodeCell) (E : List ℕ) → k < length xs → Entries cs es f s (xs ++ E) → Entries cs fs g t (get_or xs k 0 ∷ (drop (k + 1) xs ++ E))
+  entry_due cs E p h = inv.entries cs _ (subst (λ l. Entries cs es f s l) (split_at xs k E p) h)
 
-  pub entry_due : (cs : List NodeCell) (E : List ℕ) → k < ones node.datamap → Entries cs es f s (singles node ++ E) → Entries cs fs g t (get_or node.entries k 0 ∷ (drop (k + 1) (singles node) ++ E))
-  entry_due cs E p h =
-      let split = split_at (singles node) k E (slot_inside p) ∙ ap (λ (x : ℕ). take k (singles node) ++ (x ∷ (drop (k + 1) (singles node) ++ E))) (listed_at node.datamap node.entries k p) in
-      inv.entries cs _ (subst (λ l. Entries cs es f s l) split h)
-
-  pub entry_given_up : (gs : List (EntryCell K V)) (h u : ℕ) → k < ones node.datamap → EntryReleased (get_or node.entries k 0) fs g t gs h u → EntriesReleased (take (k + 1) (singles node)) es f s gs h u
+  pub entry_given_up : (gs : List (EntryCell K V)) (h u : ℕ) → k < length xs → EntryReleased (get_or xs k 0) fs g t gs h u → EntriesReleased (take (k + 1) xs) es f s gs h u
   entry_given_up gs h u p r =
-      rw (take_more (singles node) k 0 (slot_inside p), listed_at)
-      (one_more_released _ _ _ _ _ _ _ _ _ _ _ inv (record { long = r.long; left = r.left; entries = r.entries }))
+      rw (take_more xs k 0 p) (one_more_released _ _ _ _ _ _ _ _ _ _ _ inv (record { long = r.long; left = r.left; entries = r.entries }))
 
-  pub all_given_up : ones node.datamap ≤ k → EntriesReleased (singles node) es f s fs g t
-  all_given_up p =
-      subst (λ l. EntriesReleased l es f s fs g t) (take_all k (singles node) (omega (arith, length_listed node.datamap node.entries))) inv
+  pub all_given_up : length xs ≤ k → EntriesReleased xs es f s fs g t
+  all_given_up p = subst (λ l. EntriesReleased l es f s fs g t) (take_all k xs p) inv
 
 -- ---- cell by cell along the chain
 

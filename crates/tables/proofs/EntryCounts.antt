@@ -1,5 +1,5 @@
 -- The entry table as entries are held, made and given up. Assumes nothing.
-use Rattle.std.proofs.Common.{◌≡◌, ℕ, ◌+◌, ◌-◌, ◌*◌, ◌<◌, ◌≤◌, true, List, [], ◌∷◌, length, set, is_some as option_is_some, None, Option, sym, refl, ap, ◌∙◌, subst, inl, inr, arith, length-set}
+use Rattle.std.proofs.Common.{◌≡◌, ℕ, ◌+◌, ◌-◌, ◌*◌, ◌<◌, ◌≤◌, Bool, true, false, List, [], ◌∷◌, length, set, is_some as option_is_some, None, Option, sym, refl, ap, ◌∙◌, subst, inl, inr, arith, length-set}
 use lib.Count.{ones}
 use Rattle.std.proofs.ByRecursion.{All-from_get_or, sum_by_le}
 use Rattle.std.proofs.lemmas.List.{get_or-set_same, get_or-set_other, get_or_past}
@@ -35,13 +35,13 @@ module _ {K V : Type 0} where
   pub rooted : (cs : List NodeCell) (es : List (EntryCell K V)) (f s e : ℕ) (R : List ℕ) → Entries cs es f s (e ∷ R) → 0 < (entry_cell es e).holders
   rooted cs es f s e R H = omega (arith, H.counted e, occ_head e R)
 
-  -- the count of holders that code read has room
+  -- a count of holders has room
   pub holders_fit :
-      (cs : List NodeCell) (es : List (EntryCell K V)) (f s e : ℕ) (R : List ℕ) (old : EntryCell K V) → old ≡ entry_cell es e
+      (cs : List NodeCell) (es : List (EntryCell K V)) (f s e : ℕ) (R : List ℕ)
       → Entries cs es f s R → length R ≤ 65535 → length cs ≤ 65535 → ((i : ℕ) → ones (cell cs i).datamap ≤ 16)
-      → old.holders ≤ 1114095
-  holders_fit cs es f s e R old read H short_roots short_nodes narrow =
-      omega (arith, ap (λ (c : EntryCell K V). c.holders) read, H.counted e, occ_le_length e R, inner_entries_le e cs narrow)
+      → (entry_cell es e).holders ≤ 1114095
+  holders_fit cs es f s e R H short_roots short_nodes narrow =
+      omega (arith, H.counted e, occ_le_length e R, inner_entries_le e cs narrow)
 
   -- ---- one cell is written
 
@@ -222,37 +222,21 @@ module _ {K V : Type 0} where
         chain = chain_counting _ _ (length es) (λ i p. ((all i p).next, (all i p).holders));
       }
 
-  -- ---- the same of code that read the cell into old, and that left the cells fs
+  -- ---- the same of code that left the cells fs
 
-  module _ (es fs : List (EntryCell K V)) (f s e : ℕ) (old : EntryCell K V) (read : old ≡ entry_cell es e) where
-    same_holders : old.holders ≡ (entry_cell es e).holders
-    same_holders = ap (λ (c : EntryCell K V). c.holders) read
+  module _ (es fs : List (EntryCell K V)) (f s e : ℕ) (held : 0 < (entry_cell es e).holders) where
+    pub held_step : fs ≡ set es e (one_more_entry (entry_cell es e)) → EntryHeld e es f s fs f s
+    held_step is = subst (λ (x : List (EntryCell K V)). EntryHeld e es f s x f s) (sym is) (entry_held es f s e held)
 
-    pub held_step : 0 < (entry_cell es e).holders → fs ≡ set es e (one_more_entry old) → EntryHeld e es f s fs f s
-    held_step held is =
-        subst (λ (x : List (EntryCell K V)). EntryHeld e es f s x f s)
-        (sym (is ∙ ap (λ (c : EntryCell K V). set es e (one_more_entry c)) read)) (entry_held es f s e held)
-
-    pub fewer_step :
-        1 < old.holders → fs ≡ set es e (record { held = old.held; holders = old.holders - 1; next = old.next })
-        → EntryReleased e es f s fs f s
-    fewer_step more is =
-        subst (λ (x : List (EntryCell K V)). EntryReleased e es f s x f s) (sym is)
-        (fewer_released es f s e _ (omega arith) (omega (arith, same_holders))
-        (ap (λ (c : EntryCell K V). c.held) read) (ap (λ (c : EntryCell K V). c.next) read))
-
-    pub last_step :
-        0 < (entry_cell es e).holders → old.holders ≤ 1 → fs ≡ set es e (record { held = None; holders = 0; next = f })
-        → EntryReleased e es f s fs e (s + 1)
-    last_step held last is =
-        subst (λ (x : List (EntryCell K V)). EntryReleased e es f s x e (s + 1)) (sym is)
-        (last_released es f s e _ refl refl refl (omega (arith, same_holders)))
-
-  pub made_step :
-      (es fs : List (EntryCell K V)) (f s : ℕ) (old y : EntryCell K V) (cs : List NodeCell) (R : List ℕ) → Entries cs es f s R → 0 < s
-      → y.holders ≡ 1 → option_is_some y.held ≡ true → old ≡ entry_cell es f → fs ≡ set es f y
-      → EntryMade f y es f s fs old.next (s - 1)
-  made_step es fs f s old y cs R H some one is_some read is =
-      subst (λ (n : ℕ). EntryMade f y es f s fs n (s - 1)) (sym (ap (λ (c : EntryCell K V). c.next) read))
-      (subst (λ (x : List (EntryCell K V)). EntryMade f y es f s x (entry_cell es f).next (s - 1)) (sym is)
-      (entry_made es f s y cs R H some one is_some))
+    -- one holder fewer, or the cell emptied and chained
+    pub let_go_step :
+        (g t : ℕ) (b : Bool) →
+        (b ≡ false → (1 < (entry_cell es e).holders) × ((fs ≡ set es e (record { held = (entry_cell es e).held; holders = (entry_cell es e).holders - 1; next = (entry_cell es e).next })) × ((g ≡ f) × (t ≡ s)))) →
+        (b ≡ true → ((entry_cell es e).holders ≤ 1) × ((fs ≡ set es e (record { held = None; holders = 0; next = f })) × ((g ≡ e) × (t ≡ s + 1)))) →
+        EntryReleased e es f s fs g t
+    let_go_step g t false shared freed =
+        let h = shared refl in
+        rw (h.1.0, h.1.1.0, h.1.1.1) (fewer_released es f s e _ (omega (arith, h.0)) (omega (arith, h.0)) refl refl)
+    let_go_step g t true shared freed =
+        let h = freed refl in
+        rw (h.1.0, h.1.1.0, h.1.1.1) (last_released es f s e _ refl refl refl (omega (arith, held, h.0)))

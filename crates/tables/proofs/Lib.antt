@@ -1,6 +1,7 @@
 pub mod Occurrences
 pub mod Chains
 pub mod Rows
+pub mod Listed
 pub mod Written
 pub mod NodeCounts
 pub mod EntryCounts

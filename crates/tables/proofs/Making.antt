@@ -16,6 +16,10 @@ use Rattle.tables.proofs.NodeCounts.{listed_none, sum_none, cell_past, inside, i
 abbrev pub unused : ℕ → NodeCell
 unused n = record { datamap = 0; nodemap = 0; entries = replicate 16 0; children = replicate 16 0; holders = 0; next = n; level = 0 }
 
+-- a cell with no holder, before the cell n in the chain
+abbrev pub chained_again : ℕ → NodeCell → NodeCell
+chained_again n c = record { datamap = c.datamap; nodemap = c.nodemap; entries = c.entries; children = c.children; holders = 0; next = n; level = c.level }
+
 module _ (cs : List NodeCell) (all : (k : ℕ) → k < length cs → cell cs k ≡ unused (k + 1)) where
   -- past the end too
   everywhere : (P : NodeCell → Type 0) → ((n : ℕ) → P (unused n)) → P blank → (i : ℕ) → P (cell cs i)

@@ -8,7 +8,7 @@ use Rattle.tables.specs.Cells.{cell, kids}
 use Rattle.tables.specs.Heaps.{Nodes, NodeLeft, NodesReleased}
 use Rattle.tables.proofs.Occurrences.{hit, hit_same, hit_other, occ_nil, occ_cons, occ_append, occ_at, split_at}
 use Rattle.tables.proofs.Chains.{chain_kept, chain_pushed}
-use Rattle.tables.proofs.NodeCounts.{length_listed, listed_at, listed_none, inside, rooted, same_roots, at_set, new_cell, other_cell, part_kept, inner_set, narrow_set}
+use Rattle.tables.proofs.NodeCounts.{listed_none, inside, rooted, same_roots, at_set, new_cell, other_cell, part_kept, inner_set, narrow_set}
 
 -- ---- what is left of the cells
 
@@ -159,47 +159,36 @@ module _ (cs : List NodeCell) (f s j : ℕ) (held : 0 < (cell cs j).holders) (la
       (record { fewer = omega arith; level = λ p. absurd (omega arith); datamap = λ p. absurd (omega arith); nodemap = λ p. absurd (omega arith); entries = λ p. absurd (omega arith); children = λ p. absurd (omega arith) })
 
   -- so many of the children are given up
-  module _ (ds : List NodeCell) (g t k : ℕ) (inv : NodesReleased (take k (kids (cell cs j))) (set cs j (freed (cell cs j) f)) j (s + 1) ds g t) where
-    pub kid_nodes :
-        (R : List ℕ) → Nodes cs f s (j ∷ R) → k < ones (cell cs j).nodemap
-        → Nodes ds g t (get_or (cell cs j).children k 0 ∷ (drop (k + 1) (kids (cell cs j)) ++ R))
+  module _ (xs : List ℕ) (is : xs ≡ kids (cell cs j)) (ds : List NodeCell) (g t k : ℕ) (inv : NodesReleased (take k xs) (set cs j (freed (cell cs j) f)) j (s + 1) ds g t) where
+    pub kid_nodes : (R : List ℕ) → Nodes cs f s (j ∷ R) → k < length xs → Nodes ds g t (get_or xs k 0 ∷ (drop (k + 1) xs ++ R))
     kid_nodes R H p =
-        let q : k < length (kids (cell cs j)) = omega (arith, length_listed (cell cs j).nodemap (cell cs j).children) in
-        let split = split_at (kids (cell cs j)) k R q ∙ ap (λ (x : ℕ). take k (kids (cell cs j)) ++ (x ∷ (drop (k + 1) (kids (cell cs j)) ++ R))) (listed_at (cell cs j).nodemap (cell cs j).children k p) in
-        (inv.nodes _ (same_roots _ _ _ _ _ (λ i. ap (occ i) split) (freed_nodes R H).0).0).0
+        (inv.nodes _ (same_roots _ _ _ _ _ (λ i. ap (λ (l : List ℕ). occ i (l ++ R)) (sym is) ∙ ap (occ i) (split_at xs k R p)) (freed_nodes R H).0).0).0
 
-    pub kid_level :
-        (R : List ℕ) → Nodes cs f s (j ∷ R) → k < ones (cell cs j).nodemap → (cell ds (get_or (cell cs j).children k 0)).level < (cell cs j).level
+    pub kid_level : (R : List ℕ) → Nodes cs f s (j ∷ R) → k < length xs → (cell ds (get_or xs k 0)).level < (cell cs j).level
     kid_level R H p =
-        let q : k < length (kids (cell cs j)) = omega (arith, length_listed (cell cs j).nodemap (cell cs j).children) in
-        let i = get_or (cell cs j).children k 0 in
+        let i = get_or xs k 0 in
         let here : 0 < (cell ds i).holders = rooted ds g t i _ (kid_nodes R H p) in
-        omega (arith, (inv.left i).level here, freed_same (λ (c : NodeCell). c.level) refl i, H.falls j i (rw listed_at at (occ_at (kids (cell cs j)) k q)))
+        omega (arith, (inv.left i).level here, freed_same (λ (c : NodeCell). c.level) refl i, H.falls j i (subst (λ (l : List ℕ). 0 < occ i l) is (occ_at xs k p)))
 
     pub kid_released :
-        (es : List NodeCell) (h u : ℕ) → k < ones (cell cs j).nodemap
-        → NodesReleased (get_or (cell cs j).children k 0 ∷ []) ds g t es h u
-        → NodesReleased (take (k + 1) (kids (cell cs j))) (set cs j (freed (cell cs j) f)) j (s + 1) es h u
-    kid_released es h u p r =
-        let q : k < length (kids (cell cs j)) = omega (arith, length_listed (cell cs j).nodemap (cell cs j).children) in
-        rw (take_more (kids (cell cs j)) k 0 q, listed_at) (released_then _ _ _ _ _ _ _ _ _ _ _ inv r)
+        (es : List NodeCell) (h u : ℕ) → k < length xs → NodesReleased (get_or xs k 0 ∷ []) ds g t es h u
+        → NodesReleased (take (k + 1) xs) (set cs j (freed (cell cs j) f)) j (s + 1) es h u
+    kid_released es h u p r = rw (take_more xs k 0 p) (released_then _ _ _ _ _ _ _ _ _ _ _ inv r)
 
-    pub all_released : ones (cell cs j).nodemap ≤ k → NodesReleased (j ∷ []) cs f s ds g t
-    all_released p =
-        let q : length (kids (cell cs j)) ≤ k = omega (arith, length_listed (cell cs j).nodemap (cell cs j).children) in
-        record {
-          long = inv.long ∙ length-set cs j (freed (cell cs j) f);
-          left = λ i. left_then _ _ _ (freed_left i) (inv.left i);
-          data_kept = λ i.
-              ((inv.data_kept i).0 ∙ freed_same (λ (c : NodeCell). c.datamap) refl i, (inv.data_kept i).1 ∙ freed_same (λ (c : NodeCell). c.entries) refl i);
-          nodes = λ R H.
-              let a = freed_nodes R H in
-              let b = same_roots _ _ _ _ (take k (kids (cell cs j)) ++ R) (λ i. ap (λ (l : List ℕ). occ i (l ++ R)) (sym (take_all k (kids (cell cs j)) q))) a.0 in
-              let c = inv.nodes R b.0 in (
-                c.0,
-                (
-                  c.1.0 ++ (j ∷ []),
-                  c.1.1 ∙ ap (λ (l : List ℕ). c.1.0 ++ l) (b.1 ∙ a.1) ∙ sym (append_assoc c.1.0 (j ∷ []) H.chain.list),
-                ),
-              );
-        }
+    pub all_released : length xs ≤ k → NodesReleased (j ∷ []) cs f s ds g t
+    all_released p = record {
+      long = inv.long ∙ length-set cs j (freed (cell cs j) f);
+      left = λ i. left_then _ _ _ (freed_left i) (inv.left i);
+      data_kept = λ i.
+          ((inv.data_kept i).0 ∙ freed_same (λ (c : NodeCell). c.datamap) refl i, (inv.data_kept i).1 ∙ freed_same (λ (c : NodeCell). c.entries) refl i);
+      nodes = λ R H.
+          let a = freed_nodes R H in
+          let b = same_roots _ _ _ _ (take k xs ++ R) (λ i. ap (λ (l : List ℕ). occ i (l ++ R)) (sym is ∙ sym (take_all k xs p))) a.0 in
+          let c = inv.nodes R b.0 in (
+            c.0,
+            (
+              c.1.0 ++ (j ∷ []),
+              c.1.1 ∙ ap (λ (l : List ℕ). c.1.0 ++ l) (b.1 ∙ a.1) ∙ sym (append_assoc c.1.0 (j ∷ []) H.chain.list),
+            ),
+          );
+    }

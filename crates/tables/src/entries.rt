@@ -1,18 +1,13 @@
 // The entry table.
-ghost use Rattle.std.specs.Prelude.{◌≡◌, ℕ, ◌<◌, ◌≤◌, List, [], ◌∷◌, length, Some, count_ones, slice_set};
+ghost use Rattle.std.specs.Prelude.{◌≡◌, ℕ, ◌<◌, ◌≤◌, List, [], ◌∷◌, length, Some, count_ones};
 ghost use Rattle.tables.specs.Cells.{cell, entry_cell};
 ghost use Rattle.tables.specs.Heaps.{Entries, EntryHeld, EntryMade, EntryReleased, inner_entries};
 ghost use Rattle.tables.specs.declared.cells.NodeCell.{NodeCell};
 
 use super::cells::{EntryCell, EntryId};
+use super::table::{Table, format};
 
-#[derive(Drop)]
-pub struct EntryTable<'a, K, V> {
-    pub cells: &'a mut [EntryCell<K, V>],
-    // the first free cell, if there is one, and how many there are
-    pub free: u16,
-    pub spare: usize,
-}
+pub type EntryTable<'a, K, V> = Table<'a, EntryCell<K, V>>;
 
 // Makes every cell free, chained from the first to the last, beside any nodes that refer to no entry.
 pub(crate) fn format_entries<K: Copy, V: Copy>(cells: &mut [EntryCell<K, V>])
@@ -20,45 +15,15 @@ pub(crate) fn format_entries<K: Copy, V: Copy>(cells: &mut [EntryCell<K, V>])
     ensures long { length cells.new ≡ length cells.old }
     ensures entries { (cs : List NodeCell) → ((e : ℕ) → inner_entries e cs ≡ 0) → Entries cs cells.new 0 (length cells.new) [] }
 {
-    for i in 0..cells.len() {
-        cells[i] = EntryCell {
-            held: None,
-            holders: 0,
-            next: (i + 1) as u16,
-        };
-    }
-}
-
-// The cell of a slice at a number.
-fn read_cell<K: Copy, V: Copy>(cells: &[EntryCell<K, V>], at: usize) -> EntryCell<K, V>
-    requires { at < length cells.now }
-    ensures { result ≡ entry_cell cells.now at }
-{
-    cells[at]
+    format(cells, EntryCell::empty());
 }
 
 // The cell of a table at a number.
-fn cell_at<K: Copy, V: Copy>(entries: &EntryTable<K, V>, at: usize) -> EntryCell<K, V>
-    requires { at < length entries.now.cells.now }
-    ensures { result ≡ entry_cell entries.now.cells.now at }
-{
-    read_cell(entries.cells, at)
-}
-
-// The cell of a table at a number, for the crates above.
 pub fn entry_cell_at<K: Copy, V: Copy>(entries: &EntryTable<K, V>, at: usize) -> EntryCell<K, V>
     requires { at < length entries.now.cells.now }
     ensures { result ≡ entry_cell entries.now.cells.now at }
 {
-    cell_at(entries, at)
-}
-
-// Writes the cell at a number.
-fn put_cell<K: Copy, V: Copy>(cells: &mut [EntryCell<K, V>], at: usize, cell: EntryCell<K, V>)
-    requires { at < length cells.old }
-    ensures { cells.new ≡ slice_set cells.old at cell }
-{
-    cells[at] = cell;
+    entries.cells[at]
 }
 
 // One more holder of an entry. Its count cannot overflow: it is at most the references from outside and 16 for each node cell.
@@ -67,16 +32,7 @@ pub fn hold_entry<K: Copy, V: Copy>(entries: &mut EntryTable<K, V>, id: EntryId)
     requires heap { (cs : List NodeCell) × ((R : List ℕ) × (Entries cs entries.old.cells.now entries.old.free entries.old.spare R × ((length R ≤ 65535) × ((length cs ≤ 65535) × ((i : ℕ) → count_ones (cell cs i).datamap ≤ 16))))) }
     ensures { EntryHeld id.0 entries.old.cells.now entries.old.free entries.old.spare entries.new.cells.now entries.new.free entries.new.spare }
 {
-    let at = id.0 as usize;
-    let old = cell_at(entries, at);
-    put_cell(
-        entries.cells,
-        at,
-        EntryCell {
-            holders: old.holders + 1,
-            ..old
-        },
-    );
+    entries.hold(id.0 as usize);
 }
 
 // A new entry in a free cell, with one holder.
@@ -85,21 +41,11 @@ pub fn make_entry<K: Copy, V: Copy>(entries: &mut EntryTable<K, V>, key: K, valu
     requires heap { (cs : List NodeCell) × ((R : List ℕ) × Entries cs entries.old.cells.now entries.old.free entries.old.spare R) }
     ensures { EntryMade result.0 (record { held = Some (key, value); holders = 1; next = 0 }) entries.old.cells.now entries.old.free entries.old.spare entries.new.cells.now entries.new.free entries.new.spare }
 {
-    let id = entries.free;
-    let at = id as usize;
-    let old = cell_at(entries, at);
-    entries.free = old.next;
-    entries.spare -= 1;
-    put_cell(
-        entries.cells,
-        at,
-        EntryCell {
-            held: Some((key, value)),
-            holders: 1,
-            next: 0,
-        },
-    );
-    EntryId(id)
+    EntryId(entries.take(EntryCell {
+        held: Some((key, value)),
+        holders: 1,
+        next: 0,
+    }))
 }
 
 // Gives up one holder of an entry; without any left the cell is emptied and goes to the chain of free cells.
@@ -107,29 +53,5 @@ pub fn release_entry<K: Copy, V: Copy>(entries: &mut EntryTable<K, V>, id: Entry
     requires { (cs : List NodeCell) × ((R : List ℕ) × Entries cs entries.old.cells.now entries.old.free entries.old.spare (id.0 ∷ R)) }
     ensures { EntryReleased id.0 entries.old.cells.now entries.old.free entries.old.spare entries.new.cells.now entries.new.free entries.new.spare }
 {
-    let at = id.0 as usize;
-    let old = cell_at(entries, at);
-    if old.holders > 1 {
-        put_cell(
-            entries.cells,
-            at,
-            EntryCell {
-                holders: old.holders - 1,
-                ..old
-            },
-        );
-        return;
-    }
-    let next = entries.free;
-    put_cell(
-        entries.cells,
-        at,
-        EntryCell {
-            held: None,
-            holders: 0,
-            next,
-        },
-    );
-    entries.free = id.0;
-    entries.spare += 1;
+    let _ = entries.let_go(id.0);
 }

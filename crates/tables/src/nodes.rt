@@ -1,19 +1,13 @@
 // The node table.
 ghost use Rattle.std.specs.Prelude.{◌≡◌, ℕ, ◌<◌, ◌≤◌, List, [], ◌∷◌, ◌++◌, length};
 ghost use Rattle.tables.specs.Chains.{occ};
-ghost use Rattle.tables.specs.Cells.{cell, listed};
+ghost use Rattle.tables.specs.Cells.{cell, kids};
 ghost use Rattle.tables.specs.Heaps.{Nodes, Entryless, NodeHeld, NodeMade, NodesReleased, inner_entries};
 
-use super::cells::{NodeCell, NodeId};
-use super::slots::bits_of;
+use super::cells::{Cell, NodeCell, NodeId};
+use super::table::{Table, format};
 
-#[derive(Drop)]
-pub struct NodeTable<'a> {
-    pub cells: &'a mut [NodeCell],
-    // the first free cell, if there is one, and how many there are
-    pub free: u16,
-    pub spare: usize,
-}
+pub type NodeTable<'a> = Table<'a, NodeCell>;
 
 // Makes every cell free, chained from the first to the last.
 pub(crate) fn format_nodes(cells: &mut [NodeCell])
@@ -23,12 +17,7 @@ pub(crate) fn format_nodes(cells: &mut [NodeCell])
     ensures entryless { Entryless cells.new }
     ensures unreferred { (e : ℕ) → inner_entries e cells.new ≡ 0 }
 {
-    for i in 0..cells.len() {
-        cells[i] = NodeCell {
-            next: (i + 1) as u16,
-            ..NodeCell::empty()
-        };
-    }
+    format(cells, NodeCell::empty());
 }
 
 // One more holder of a node. Its count cannot overflow: it is at most the references from outside and 16 for each cell.
@@ -37,42 +26,17 @@ pub fn hold_node(nodes: &mut NodeTable, id: NodeId)
     requires heap { (R : List ℕ) × (Nodes nodes.old.cells.now nodes.old.free nodes.old.spare R × (length R ≤ 65535)) }
     ensures { NodeHeld id.0 nodes.old.cells.now nodes.old.free nodes.old.spare nodes.new.cells.now nodes.new.free nodes.new.spare }
 {
-    let at = id.0 as usize;
-    let old = nodes.cells[at];
-    nodes.cells[at] = NodeCell {
-        holders: old.holders + 1,
-        ..old
-    };
+    nodes.hold(id.0 as usize);
 }
 
-// A new node in a free cell, with one holder; it takes over one holder of each of its children and entries.
-pub fn make_node(
-    nodes: &mut NodeTable,
-    datamap: u16,
-    nodemap: u16,
-    entries: [u16; 16],
-    children: [u16; 16],
-    level: u8,
-) -> NodeId
+// A new node in a free cell, with one holder, whatever holders and next cell `new` names; it takes over one holder of each of its children and entries.
+pub fn make_node(nodes: &mut NodeTable, new: NodeCell) -> NodeId
     requires some { 0 < nodes.old.spare }
-    requires heap { (R : List ℕ) × Nodes nodes.old.cells.now nodes.old.free nodes.old.spare (listed nodemap children ++ R) }
-    requires below { (k : ℕ) → 0 < occ k (listed nodemap children) → (cell nodes.old.cells.now k).level < level }
-    ensures { NodeMade result.0 (record { datamap = datamap; nodemap = nodemap; entries = entries; children = children; holders = 1; next = 0; level = level }) nodes.old.cells.now nodes.old.free nodes.old.spare nodes.new.cells.now nodes.new.free nodes.new.spare }
+    requires heap { (R : List ℕ) × Nodes nodes.old.cells.now nodes.old.free nodes.old.spare (kids new ++ R) }
+    requires below { (k : ℕ) → 0 < occ k (kids new) → (cell nodes.old.cells.now k).level < new.level }
+    ensures { NodeMade result.0 (record { datamap = new.datamap; nodemap = new.nodemap; entries = new.entries; children = new.children; holders = 1; next = 0; level = new.level }) nodes.old.cells.now nodes.old.free nodes.old.spare nodes.new.cells.now nodes.new.free nodes.new.spare }
 {
-    let id = nodes.free;
-    let at = id as usize;
-    nodes.free = nodes.cells[at].next;
-    nodes.spare -= 1;
-    nodes.cells[at] = NodeCell {
-        datamap,
-        nodemap,
-        entries,
-        children,
-        holders: 1,
-        next: 0,
-        level,
-    };
-    NodeId(id)
+    NodeId(nodes.take(new.with(1, 0)))
 }
 
 // Gives up one holder of a node: without any left, the cell goes to the chain and its children are released.
@@ -81,25 +45,10 @@ pub(crate) fn release_nodes(nodes: &mut NodeTable, id: NodeId)
     requires { (R : List ℕ) × Nodes nodes.old.cells.now nodes.old.free nodes.old.spare (id.0 ∷ R) }
     ensures { NodesReleased (id.0 ∷ []) nodes.old.cells.now nodes.old.free nodes.old.spare nodes.new.cells.now nodes.new.free nodes.new.spare }
 {
-    let at = id.0 as usize;
-    let old = nodes.cells[at];
-    if old.holders > 1 {
-        nodes.cells[at] = NodeCell {
-            holders: old.holders - 1,
-            ..old
-        };
-        return;
-    }
-    nodes.cells[at] = NodeCell {
-        nodemap: 0,
-        holders: 0,
-        next: nodes.free,
-        ..old
-    };
-    nodes.free = id.0;
-    nodes.spare += 1;
-    let count = bits_of(old.nodemap);
-    for k in 0..count {
-        release_nodes(nodes, NodeId(old.children[k]));
+    let old = nodes.cells[id.0 as usize];
+    if nodes.let_go(id.0) {
+        for child in old.kids() {
+            release_nodes(nodes, NodeId(*child));
+        }
     }
 }

@@ -2,16 +2,14 @@ use Rattle.std.proofs.Common.{arith}
 use Rattle.tables.proofs.EntryCounts.{inside_entries, holders_fit, held_step}
 use Rattle.tables.proofs.entries.hold_entry.Goals as goal
 
-pub cell_at-old-requires : goal.cell_at-old-requires
-cell_at-old-requires g c = inside_entries _ _ c.requires.held
+pub hold-requires-clause-inside : goal.hold-requires-clause-inside
+hold-requires-clause-inside g c = inside_entries _ _ c.requires.held
 
-pub overflow_add-old : goal.overflow_add-old
-overflow_add-old g c =
+pub hold-requires-clause-few : goal.hold-requires-clause-few
+hold-requires-clause-few g c =
     let h = c.requires.heap.1.1 in
-    omega (arith, holders_fit _ _ _ _ _ _ _ c.cell_at-old.ensures h.0 h.1.0 h.1.1.0 h.1.1.1)
-
-pub put_cell-requires : goal.put_cell-requires
-put_cell-requires g c = inside_entries _ _ c.requires.held
+    omega (arith, holders_fit _ _ _ _ c.args.id.0 _ h.0 h.1.0 h.1.1.0 h.1.1.1)
 
 pub returns : goal.returns
-returns g c = held_step _ _ _ _ _ _ c.cell_at-old.ensures c.requires.held c.put_cell.ensures
+returns g c =
+    rw (c.hold.ensures.free, c.hold.ensures.spare) (held_step _ _ _ _ _ c.requires.held c.hold.ensures.cells)

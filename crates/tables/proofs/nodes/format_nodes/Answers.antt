@@ -1,22 +1,14 @@
-use Rattle.std.proofs.Common.{◌≡◌, ℕ, ◌+◌, ap₂, arith}
-use Rattle.tables.specs.declared.cells.NodeCell.{NodeCell}
-use Rattle.tables.proofs.NodeCounts.{at_set}
-use Rattle.tables.proofs.Making.{unused, free_nodes, free_entryless, free_unreferred}
+use Rattle.std.proofs.Common.{ℕ, ◌+◌, ◌<◌, ◌≡◌, length, ◌∙◌, ap, arith}
+use Rattle.tables.specs.Cells.{cell}
+use Rattle.tables.proofs.Making.{unused, free_nodes, free_entryless, free_unreferred, chained_again}
 use Rattle.tables.proofs.nodes.format_nodes.Goals as goal
 
-abbrev with-next : NodeCell → ℕ → NodeCell
-with-next d n =
-    record { datamap = d.datamap; nodemap = d.nodemap; entries = d.entries; children = d.children; holders = d.holders; next = n; level = d.level }
-
-pub loop-i-preserved : goal.loop-i-preserved
-loop-i-preserved c = λ k p.
-    at_set c.loop-i.cells c.loop-i.i _ (omega arith) (λ (d : NodeCell). d ≡ unused (k + 1)) k
-    (λ e. ap₂ with-next c.empty.ensures (omega arith)) (λ n. c.loop-i.invariant k (omega arith))
-
 pub returns : goal.returns
-returns c = record {
-  long = c.loop-i.auto.cells;
-  nodes = free_nodes c.loop-i.cells (λ k p. c.loop-i.invariant k (omega arith)) (omega arith);
-  entryless = free_entryless c.loop-i.cells (λ k p. c.loop-i.invariant k (omega arith));
-  unreferred = free_unreferred c.loop-i.cells (λ k p. c.loop-i.invariant k (omega arith));
-}
+returns c =
+    let all : (k : ℕ) → k < length c.format.new.cells → cell c.format.new.cells k ≡ unused (k + 1) = λ k p. c.format.ensures.chained k p ∙ ap (chained_again (k + 1)) c.empty.ensures in
+    record {
+      long = c.format.ensures.long;
+      nodes = free_nodes _ all (omega (arith, c.format.ensures.long));
+      entryless = free_entryless _ all;
+      unreferred = free_unreferred _ all;
+    }
