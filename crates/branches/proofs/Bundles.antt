@@ -1,14 +1,14 @@
 -- What is in hand for a node, by rank and by the bits of its maps. Assumes nothing.
-use Rattle.std.proofs.Common.{◌≡◌, ℕ, zero, suc, ◌+◌, ◌*◌, ◌^◌, ◌<◌, ◌≤◌, Bool, true, false, cond, List, [], ◌∷◌, ◌++◌, map, length, get_or, take, count_by, sym, refl, ap, ◌∙◌, subst, ap₂, mul_assoc, pow-suc, arith, length-set}
+use Rattle.std.proofs.Common.{◌≡◌, ℕ, suc, ◌+◌, ◌*◌, ◌^◌, ◌<◌, ◌≤◌, Bool, true, false, cond, List, [], ◌∷◌, ◌++◌, map, length, take, count_by, sym, refl, ap, ◌∙◌, subst, ap₂, mul_assoc, pow-suc, arith, length-set}
 use lib.Count.{ones}
 use lib.Lanes.{mask_l}
-use Rattle.std.proofs.lemmas.List.{take_more_set, append-nil, length_push, get_or-take}
+use Rattle.std.proofs.lemmas.List.{take_more_set, append-nil, length_push}
 use Rattle.std.proofs.lemmas.List.Sums.{count_by-le-length, sum_by_push}
-use Rattle.std.proofs.lemmas.List.FromFn.{fill_by_all}
 use Rattle.std.proofs.lemmas.Simd.{mask_l-lt, ones-mask_l}
 use Rattle.model.specs.Maps.{Map}
 use Rattle.model.specs.Images.{bits}
 use Rattle.tables.specs.Cells.{listed}
+use Rattle.tables.proofs.Listed.{listed_take}
 use Rattle.branches.specs.declared.branch.Branch.{Branch}
 use Rattle.branches.specs.declared.branch.Branch.TheVariants.{Nothing, Entry, Child}
 use Rattle.branches.specs.declared.handful.Handful.{Handful}
@@ -40,17 +40,6 @@ ones_mask bs = ap (λ (l : List Bool). ones (mask_l l)) (same bs) ∙ ones-mask_
     same : (l : List Bool) → l ≡ map (λ b. b) l
     same [] = refl
     same (b ∷ l) = ap (λ (r : List Bool). b ∷ r) (same l)
-
--- the first slots, as many as a map has bits
-pub listed_take : (m : ℕ) (l : List ℕ) → ones m ≤ length l → listed m l ≡ take (ones m) l
-unfolding listed
-listed_take m l h =
-    sym (fill_by_all (λ k. get_or l k 0) (take (ones m) l) (ones m) 0 (long (ones m) l h) (λ k p. get_or-take (ones m) l k 0 p))
-  where
-    long : (n : ℕ) (l : List ℕ) → n ≤ length l → length (take n l) ≡ n
-    long zero l h = refl
-    long (suc n) [] h = absurd (omega arith)
-    long (suc n) (x ∷ l) h = ap suc (long n l (omega arith))
 
 -- one bit more
 count_push : (bs : List Bool) (b : Bool) → count_by (λ b. b) (bs ++ (b ∷ [])) ≡ count_by (λ b. b) bs + cond b 1 0

@@ -14,6 +14,7 @@ use Rattle.tables.specs.Chains.{occ}
 use Rattle.tables.specs.Cells.{cell, kids, singles}
 use Rattle.tables.specs.Notes.{Seat, Note, EntryNote, seat, branches, own, Fits, Stands}
 use Rattle.tables.proofs.Occurrences.{occ_head, occ_later, occ_at}
+use Rattle.tables.proofs.Listed.{listed_rank, listed_past}
 use Rattle.tables.proofs.NodeCounts.{length_listed, listed_at}
 use Rattle.tables.proofs.Noting.{kid_held}
 use Rattle.tables.proofs.Rows.{from_map}
@@ -186,3 +187,50 @@ module _ {X Y : Type 0} (K : KeyKind) (kb : X → List ℕ) (vb : Y → List ℕ
               (counting_more sum r C D).so_far id.0 here notes few.some.roots few.some.in_hand few.some.sits few.some.is.0.held here_deep,
               sum_by-take-le (λ x. length (notes.node x).settings) (kids node) (rank + 1),
             )
+
+  -- the loop over the children: of a branch that is a node, the row has the children, and so many are counted
+  pub record Midway (b : Branch) (level : ℕ) (row : List ℕ) (rank sum : ℕ) : Type 0 where
+    pub id : NodeId
+    pub is : b ≡ Child id
+    pub children : row ≡ kids (cell T.nodes id.0)
+    pub counting : Counting (cell T.nodes id.0) level rank sum
+
+  pub begun : (b : Branch) (level : ℕ) (id : NodeId) (row ss : List ℕ) → b ≡ Child id → row ≡ kids (cell T.nodes id.0) → ss ≡ singles (cell T.nodes id.0) → Midway b level row 0 (length ss)
+  begun b level id row ss e k s = record {
+    id = id;
+    is = e;
+    children = k;
+    counting = record { so_far = λ i h N R E S p d. omega (arith, ap length s, length_listed (cell T.nodes id.0).datamap (cell T.nodes id.0).entries) };
+  }
+
+  module _ (b : Branch) (level : ℕ) (row : List ℕ) (rank sum : ℕ) (M : Midway b level row rank sum) where
+    module _ (some : rank < length row) where
+      abbrev slot : (rank < ones (cell T.nodes M.id.0).nodemap) × (get_or row rank 0 ≡ get_or (cell T.nodes M.id.0).children rank 0)
+      slot = listed_rank (cell T.nodes M.id.0).nodemap (cell T.nodes M.id.0).children row rank M.children some
+
+      module _ (few : FewPart K kb vb T b level) where
+        few_here : FewPart K kb vb T (Child M.id) level
+        few_here = few_as b (Child M.id) level M.is few
+
+        pub midway_level : 1 ≤ level
+        midway_level = child_level (cell T.nodes M.id.0) level rank (record { 0 = get_or row rank 0 }) slot.0 slot.1 M.id refl few_here
+
+        pub midway_few : FewPart K kb vb T (Child (record { 0 = get_or row rank 0 })) (level - 1)
+        midway_few = child_few (cell T.nodes M.id.0) level rank (record { 0 = get_or row rank 0 }) slot.0 slot.1 M.id refl few_here
+
+        pub midway_fits : (r : ℕ) → Counted K kb vb T (Child (record { 0 = get_or row rank 0 })) (level - 1) r → sum + r ≤ 65535
+        midway_fits r D = sum_few (cell T.nodes M.id.0) level rank (record { 0 = get_or row rank 0 }) slot.0 slot.1 M.id refl few_here sum r M.counting D
+
+      pub midway_more : (r : ℕ) → Counted K kb vb T (Child (record { 0 = get_or row rank 0 })) (level - 1) r → Midway b level row (rank + 1) (sum + r)
+      midway_more r D = record {
+        id = M.id;
+        is = M.is;
+        children = M.children;
+        counting = counting_more (cell T.nodes M.id.0) level rank (record { 0 = get_or row rank 0 }) slot.0 slot.1 sum r M.counting D;
+      }
+
+    pub midway_end : length row ≤ rank → Counted K kb vb T b level sum
+    midway_end past =
+        counted_as b (Child M.id) level sum M.is
+        (counting_end (cell T.nodes M.id.0) level rank sum M.counting
+        (listed_past (cell T.nodes M.id.0).nodemap (cell T.nodes M.id.0).children row rank M.children past) M.id refl)

@@ -1,5 +1,6 @@
 -- How each branch goes on by a digit. Assumes nothing.
-use Rattle.std.proofs.Common.{◌≡◌, ℕ, ◌+◌, ◌-◌, ◌<◌, true, false, ltb, List, [], ◌∷◌, ◌++◌, length, get_or, sym, refl, ap, ◌∙◌, subst, arith}
+use Rattle.std.proofs.Common.{◌≡◌, ℕ, ◌+◌, ◌-◌, ◌<◌, true, false, ltb, List, [], ◌∷◌, ◌++◌, length, get_or, sym, refl, ap, ◌∙◌, subst, arith, Some, None, Option}
+use Rattle.std.specs.Option.{MatchOption}
 use Rattle.std.proofs.lemmas.Bool.{eq-eqb, ne_eqb, lt-ltb, cond-true}
 use Rattle.kinds.specs.Kinds.{KeyKind}
 use Rattle.model.specs.Maps.{Setting, Map}
@@ -10,7 +11,7 @@ use Rattle.tables.specs.declared.cells.EntryId.{EntryId}
 use Rattle.tables.specs.declared.cells.NodeCell.{NodeCell}
 use Rattle.tables.specs.Cells.{cell}
 use Rattle.tables.specs.Notes.{Stands}
-use Rattle.tables.specs.Slots.{bit, rank_of}
+use Rattle.tables.specs.Slots.{bit, rank_of, AtDigit}
 use Rattle.tables.proofs.Ranks.{child_bit, child_slot, entry_bit}
 use Rattle.plans.specs.Plans.{bushy}
 use Rattle.branches.specs.declared.branch.Branch.{Branch}
@@ -125,3 +126,8 @@ module _ {X Y : Type 0} (K : KeyKind) (kb : X → List ℕ) (vb : Y → List ℕ
           (sym (bit_one N R E S id.0 p a is.0 g small short) ∙ o)
           (sym (bit_many N R E S id.0 p a is.0 g small short) ∙ b);
     }
+
+    -- where there is no child
+    pub goes_otherwise : (o : Option EntryId) (r : Branch) → bit node.nodemap g ≡ false → AtDigit (λ (e : EntryId). e.0) node.datamap node.entries g o → MatchOption o (r ≡ Nothing) (λ e. r ≡ Entry e) → GoesOn K kb vb T (Child id) level g r
+    goes_otherwise None r n at e = subst (λ (b : Branch). GoesOn K kb vb T (Child id) level g b) (sym e) (goes_none n at)
+    goes_otherwise (Some x) r n at e = subst (λ (b : Branch). GoesOn K kb vb T (Child id) level g b) (sym e) (goes_single x at.0 at.1)

@@ -5,8 +5,7 @@ use Rattle.model.specs.Tries.{leads}
 use Rattle.model.specs.Sharing.{begins}
 use Rattle.tables.specs.declared.cells.NodeCell.{NodeCell}
 use Rattle.tables.specs.declared.cells.EntryCell.{EntryCell}
-use Rattle.tables.specs.declared.nodes.NodeTable.{NodeTable}
-use Rattle.tables.specs.declared.entries.EntryTable.{EntryTable}
+use Rattle.tables.specs.declared.both.Tables.{Tables as Lent}
 use Rattle.tables.specs.Cells.{cell, entry_cell}
 use Rattle.tables.specs.Heaps.{Nodes, Entries, Entryless}
 use Rattle.tables.specs.Notes.{Note, EntryNote, Means}
@@ -21,8 +20,15 @@ pub record Tables (X Y : Type 0) : Type 0 where
   pub entry_spare : ℕ
 
 -- what the code's two tables hold
-abbrev pub tables_of : {X Y : Type 0} → NodeTable → EntryTable X Y → Tables X Y
-tables_of a b = record { nodes = a.cells.now; free = a.free; spare = a.spare; entries = b.cells.now; entry_free = b.free; entry_spare = b.spare }
+abbrev pub tables_of : {X Y : Type 0} → Lent X Y → Tables X Y
+tables_of t = record {
+  nodes = t.nodes.cells.now;
+  free = t.nodes.free;
+  spare = t.nodes.spare;
+  entries = t.entries.cells.now;
+  entry_free = t.entries.free;
+  entry_spare = t.entries.spare;
+}
 
 -- a note for each held cell
 pub record Notes : Type 0 where

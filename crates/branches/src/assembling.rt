@@ -4,7 +4,7 @@ ghost use Rattle.branches.specs.Handfuls.{nothing_in_hand, with_branch, Assembli
 
 use super::branch::Branch;
 use super::handful::Handful;
-use tables::{EntryId, NodeTable, make_node};
+use tables::{Digit, EntryId, NodeCell, NodeTable, make_node};
 
 // Nothing in hand.
 pub fn empty_handed() -> Handful
@@ -21,24 +21,23 @@ pub fn empty_handed() -> Handful
 }
 
 // The branch of a digit, in hand after those of the lower digits.
-pub fn take_up(hand: Handful, digit: u8, branch: Branch) -> Handful
-    requires digit { digit < 16 }
+pub fn take_up(hand: Handful, digit: Digit, branch: Branch) -> Handful
     requires singles { hand.singles < 16 }
     requires kids { hand.kids < 16 }
-    requires data_fits { hand.datamap < 2 ^ digit }
-    requires node_fits { hand.nodemap < 2 ^ digit }
-    ensures { result ≡ with_branch hand digit branch }
+    requires data_fits { hand.datamap < 2 ^ digit.number }
+    requires node_fits { hand.nodemap < 2 ^ digit.number }
+    ensures { result ≡ with_branch hand digit.number branch }
 {
     let mut next = hand;
     match branch {
         Branch::Nothing => {}
         Branch::Entry(e) => {
-            next.datamap += 1 << digit;
+            next.datamap += 1 << digit.number;
             next.entries[hand.singles] = e.0;
             next.singles += 1;
         }
         Branch::Child(i) => {
-            next.nodemap += 1 << digit;
+            next.nodemap += 1 << digit.number;
             next.children[hand.kids] = i.0;
             next.kids += 1;
         }
@@ -59,12 +58,13 @@ pub fn assemble(nodes: &mut NodeTable, hand: Handful, level: u8) -> Branch
             return Branch::Entry(EntryId(hand.entries[0]));
         }
     }
-    Branch::Child(make_node(
-        nodes,
-        hand.datamap,
-        hand.nodemap,
-        hand.entries,
-        hand.children,
+    let node = NodeCell {
+        datamap: hand.datamap,
+        nodemap: hand.nodemap,
+        entries: hand.entries,
+        children: hand.children,
         level,
-    ))
+        ..NodeCell::empty()
+    };
+    Branch::Child(make_node(nodes, node))
 }

@@ -4,16 +4,16 @@ ghost use Rattle.branches.specs.States.{tables_of};
 
 use super::branch::Branch;
 use kinds::{Key, Value};
-use tables::{EntryTable, NodeTable, hold_entry, hold_node};
+use tables::{Tables, hold_entry, hold_node};
 
 // One more holder of the node or the entry that a branch refers to.
-pub fn keep<K: Key, V: Value>(nodes: &mut NodeTable, entries: &mut EntryTable<K, V>, branch: Branch)
-    requires { Stays K.Key.kind K.Key.bytes V.Value.bytes (tables_of nodes.old entries.old) branch }
-    ensures { Kept K.Key.kind K.Key.bytes V.Value.bytes (tables_of nodes.old entries.old) branch (tables_of nodes.new entries.new) }
+pub fn keep<K: Key, V: Value>(tables: &mut Tables<K, V>, branch: Branch)
+    requires { Stays K.Key.kind K.Key.bytes V.Value.bytes (tables_of tables.old) branch }
+    ensures { Kept K.Key.kind K.Key.bytes V.Value.bytes (tables_of tables.old) branch (tables_of tables.new) }
 {
     match branch {
         Branch::Nothing => {}
-        Branch::Entry(id) => hold_entry(entries, id),
-        Branch::Child(id) => hold_node(nodes, id),
+        Branch::Entry(id) => hold_entry(&mut tables.entries, id),
+        Branch::Child(id) => hold_node(&mut tables.nodes, id),
     }
 }

@@ -6,16 +6,17 @@ ghost use Rattle.branches.specs.States.{tables_of};
 
 use super::branch::Branch;
 use kinds::{Key, Value};
-use tables::{EntryId, EntryTable, NodeTable, child_at, entry_at, entry_cell_at};
+use tables::{Digit, EntryId, EntryTable, Tables, child_at, entry_at, entry_cell_at};
 
 // The digit of a hash with so many levels from there on: four bits, the lowest at level 8.
-pub fn digit_of(hash: u32, level: u8) -> u8
+pub fn digit_of(hash: u32, level: u8) -> Digit
     requires { (1 ≤ level) × (level ≤ 8) }
-    ensures value { result ≡ hash_digit hash (8 - level) }
-    ensures small { result < 16 }
+    ensures { result.number ≡ hash_digit hash (8 - level) }
 {
     let shift = 4 * (8 - level);
-    ((hash >> shift) & 15) as u8
+    Digit {
+        number: ((hash >> shift) & 15) as u8,
+    }
 }
 
 // The key and the value of an entry that is held.
@@ -23,31 +24,24 @@ pub fn setting_of<K: Key, V: Value>(entries: &EntryTable<K, V>, id: EntryId) -> 
     requires { SomeEntry K.Key.kind K.Key.bytes V.Value.bytes entries.now.cells.now id.0 }
     ensures { SettingRead K.Key.kind K.Key.bytes V.Value.bytes entries.now.cells.now id.0 result.0 result.1 }
 {
-    let cell = entry_cell_at(entries, id.0 as usize);
-    let held = cell.held;
-    match held {
-        Some(setting) => setting,
-        None => unreachable(),
-    }
+    entry_cell_at(entries, id.0 as usize).held.unwrap()
 }
 
 // What a branch has at a digit, as a branch of one level less.
 pub fn at_digit<K: Key, V: Value>(
-    nodes: &NodeTable,
-    entries: &EntryTable<K, V>,
+    tables: &Tables<K, V>,
     branch: Branch,
     level: u8,
-    digit: u8,
+    digit: Digit,
 ) -> Branch
-    requires digit { digit < 16 }
     requires level { (1 ≤ level) × (level ≤ 8) }
-    requires part { SomePart K.Key.kind K.Key.bytes V.Value.bytes (tables_of nodes.now entries.now) branch level }
-    ensures { GoesOn K.Key.kind K.Key.bytes V.Value.bytes (tables_of nodes.now entries.now) branch level digit result }
+    requires part { SomePart K.Key.kind K.Key.bytes V.Value.bytes (tables_of tables.now) branch level }
+    ensures { GoesOn K.Key.kind K.Key.bytes V.Value.bytes (tables_of tables.now) branch level digit.number result }
 {
     match branch {
         Branch::Nothing => Branch::Nothing,
         Branch::Entry(id) => {
-            let (key, _) = setting_of(entries, id);
+            let (key, _) = setting_of(&tables.entries, id);
             if digit_of(key.hash(), level) == digit {
                 Branch::Entry(id)
             } else {
@@ -55,13 +49,10 @@ pub fn at_digit<K: Key, V: Value>(
             }
         }
         Branch::Child(id) => {
-            let node = nodes.cells[id.0 as usize];
-            if let Some(child) = child_at(&node, digit) {
-                return Branch::Child(child);
-            }
-            match entry_at(&node, digit) {
-                Some(entry) => Branch::Entry(entry),
-                None => Branch::Nothing,
+            let node = tables.nodes.cells[id.0 as usize];
+            match child_at(&node, digit) {
+                Some(child) => Branch::Child(child),
+                None => entry_at(&node, digit).map_or(Branch::Nothing, Branch::Entry),
             }
         }
     }

@@ -20,4 +20,4 @@ returns-else-same g t c =
 pub returns-else-level-eq0 : goal.returns-else-level-eq0
 returns-else-level-eq0 g t c =
     looked_as _ _ _ _ _ _ _ _ _ c.in-Child.is
-    (looked_below _ _ _ _ _ _ _ _ c.at_digit-next.ensures (omega arith) _ _ c.hash.ensures c.digit_of-digit.ensures.value _ c.look_up.ensures)
+    (looked_below _ _ _ _ _ _ _ _ c.at_digit-next.ensures (omega arith) _ _ c.hash.ensures c.digit_of-digit.ensures _ c.look_up.ensures)
