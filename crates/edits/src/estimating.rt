@@ -11,7 +11,7 @@ use super::rows::estimate_row;
 use super::setting::is_alone;
 use branches::{Branch, at_digit, digit_of, setting_of};
 use kinds::{Key, Value};
-use tables::{EntryTable, NodeTable};
+use tables::{Digit, Tables};
 
 // Of no digit yet.
 fn no_estimate() -> Estimate
@@ -31,7 +31,7 @@ fn no_estimate() -> Estimate
 fn capped(size: usize) -> usize
     ensures { result ≡ cap size }
 {
-    if size > 1 { 2 } else { size }
+    size.min(2)
 }
 
 // One digit more.
@@ -81,19 +81,18 @@ fn unchanged(at: Branch) -> Estimate
 
 // Whether a branch with no setting of another key has the value, or nothing, already.
 fn has_already<K: Key, V: Value>(
-    nodes: &NodeTable,
-    entries: &EntryTable<K, V>,
+    tables: &Tables<K, V>,
     at: Branch,
     level: u8,
     value: Option<V>,
 ) -> bool
-    requires { SomePart K.Key.kind K.Key.bytes V.Value.bytes (tables_of nodes.now entries.now) at level }
-    ensures { SameAlone K.Key.kind K.Key.bytes V.Value.bytes (tables_of nodes.now entries.now) at (value_bytes V.Value.bytes value) result }
+    requires { SomePart K.Key.kind K.Key.bytes V.Value.bytes (tables_of tables.now) at level }
+    ensures { SameAlone K.Key.kind K.Key.bytes V.Value.bytes (tables_of tables.now) at (value_bytes V.Value.bytes value) result }
 {
     match at {
         Branch::Nothing => value.is_none(),
         Branch::Entry(id) => {
-            let (_, old) = setting_of(entries, id);
+            let (_, old) = setting_of(&tables.entries, id);
             match value {
                 Some(new) => old.same(&new),
                 None => false,
@@ -115,16 +114,15 @@ fn size_of<V: Value>(value: Option<V>) -> usize
 
 // Where a branch has no setting of another key: what is set is all that is left.
 fn estimate_alone<K: Key, V: Value>(
-    nodes: &NodeTable,
-    entries: &EntryTable<K, V>,
+    tables: &Tables<K, V>,
     at: Branch,
     level: u8,
     value: Option<V>,
 ) -> Estimate
-    requires { SomePart K.Key.kind K.Key.bytes V.Value.bytes (tables_of nodes.now entries.now) at level }
-    ensures { EstimatedAlone K.Key.kind K.Key.bytes V.Value.bytes (tables_of nodes.now entries.now) at (value_bytes V.Value.bytes value) result }
+    requires { SomePart K.Key.kind K.Key.bytes V.Value.bytes (tables_of tables.now) at level }
+    ensures { EstimatedAlone K.Key.kind K.Key.bytes V.Value.bytes (tables_of tables.now) at (value_bytes V.Value.bytes value) result }
 {
-    let same = has_already(nodes, entries, at, level, value);
+    let same = has_already(tables, at, level, value);
     let size = size_of(value);
     Estimate {
         size,
@@ -138,28 +136,28 @@ fn estimate_alone<K: Key, V: Value>(
 
 // What `set` would make of a branch: the path to the key is new, all else is kept.
 pub fn estimate_set<K: Key, V: Value>(
-    nodes: &NodeTable,
-    entries: &EntryTable<K, V>,
+    tables: &Tables<K, V>,
     at: Branch,
     key: &K,
     value: Option<V>,
     level: u8,
 ) -> Estimate
-    requires { Seen K.Key.kind V.Value.kind K.Key.bytes V.Value.bytes (tables_of nodes.now entries.now) at (K.Key.bytes key.now) (value_bytes V.Value.bytes value) level }
-    ensures { Estimated K.Key.kind V.Value.kind K.Key.bytes V.Value.bytes (tables_of nodes.now entries.now) at (K.Key.bytes key.now) (value_bytes V.Value.bytes value) level result }
+    requires { Seen K.Key.kind V.Value.kind K.Key.bytes V.Value.bytes (tables_of tables.now) at (K.Key.bytes key.now) (value_bytes V.Value.bytes value) level }
+    ensures { Estimated K.Key.kind V.Value.kind K.Key.bytes V.Value.bytes (tables_of tables.now) at (K.Key.bytes key.now) (value_bytes V.Value.bytes value) level result }
 {
-    if level < 8 && is_alone(nodes, entries, at, level, key) {
-        return estimate_alone(nodes, entries, at, level, value);
+    if level < 8 && is_alone(tables, at, level, key) {
+        return estimate_alone(tables, at, level, value);
     }
     if level == 0 {
-        return estimate_row(nodes, entries, at, key, value);
+        return estimate_row(tables, at, key, value);
     }
     let digit = digit_of(key.hash(), level);
     let mut sum = no_estimate();
-    for g in 0u8..16 {
-        let old = at_digit(nodes, entries, at, level, g);
-        let new = if g == digit {
-            estimate_set(nodes, entries, old, key, value, level - 1)
+    for number in 0u8..16 {
+        let g = Digit { number };
+        let old = at_digit(tables, at, level, g);
+        let new = if number == digit.number {
+            estimate_set(tables, old, key, value, level - 1)
         } else {
             unchanged(old)
         };

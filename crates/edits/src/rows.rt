@@ -11,7 +11,7 @@ use super::row::Row;
 use branches::{Branch, Handful, assemble, empty_handed, setting_of, take_up};
 use kinds::{Key, Value};
 use std::cmp::Ordering;
-use tables::{EntryId, EntryTable, NodeCell, NodeTable, hold_entry, make_entry};
+use tables::{Digit, EntryId, EntryTable, NodeCell, NodeTable, Tables, hold_entry, make_entry};
 
 // The entries of a node.
 fn row_in(node: &NodeCell) -> Row
@@ -79,7 +79,10 @@ fn keep_range<K: Key, V: Value>(
     for j in from..to {
         let id = EntryId(slots[j]);
         hold_entry(entries, id);
-        all = take_up(all, all.singles as u8, Branch::Entry(id));
+        let next = Digit {
+            number: all.singles as u8,
+        };
+        all = take_up(all, next, Branch::Entry(id));
     }
     all
 }
@@ -97,7 +100,10 @@ fn take_new<K: Key, V: Value>(
     match value {
         Some(new) => {
             let id = make_entry(entries, *key, new);
-            take_up(hand, hand.singles as u8, Branch::Entry(id))
+            let next = Digit {
+                number: hand.singles as u8,
+            };
+            take_up(hand, next, Branch::Entry(id))
         }
         None => hand,
     }
@@ -105,22 +111,21 @@ fn take_new<K: Key, V: Value>(
 
 // Sets one key of a branch at the deepest level to a value, or clears it: the branch of the result.
 pub fn set_row<K: Key, V: Value>(
-    nodes: &mut NodeTable,
-    entries: &mut EntryTable<K, V>,
+    tables: &mut Tables<K, V>,
     at: Branch,
     key: &K,
     value: Option<V>,
 ) -> Branch
-    requires { Ready K.Key.kind V.Value.kind K.Key.bytes V.Value.bytes (tables_of nodes.old entries.old) at (K.Key.bytes key.now) (value_bytes V.Value.bytes value) 0 }
-    ensures { Done K.Key.kind V.Value.kind K.Key.bytes V.Value.bytes (tables_of nodes.old entries.old) at (K.Key.bytes key.now) (value_bytes V.Value.bytes value) 0 result (tables_of nodes.new entries.new) }
+    requires { Ready K.Key.kind V.Value.kind K.Key.bytes V.Value.bytes (tables_of tables.old) at (K.Key.bytes key.now) (value_bytes V.Value.bytes value) 0 }
+    ensures { Done K.Key.kind V.Value.kind K.Key.bytes V.Value.bytes (tables_of tables.old) at (K.Key.bytes key.now) (value_bytes V.Value.bytes value) 0 result (tables_of tables.new) }
 {
-    let row = row_of(nodes, at);
-    let (place, found) = find_in(entries, &row, key);
-    let before = keep_range(entries, &row, 0, place, empty_handed());
-    let here = take_new(entries, key, value, before);
+    let row = row_of(&tables.nodes, at);
+    let (place, found) = find_in(&tables.entries, &row, key);
+    let before = keep_range(&mut tables.entries, &row, 0, place, empty_handed());
+    let here = take_new(&mut tables.entries, key, value, before);
     let rest = place + usize::from(found);
-    let all = keep_range(entries, &row, rest, row.count, here);
-    assemble(nodes, all, 0)
+    let all = keep_range(&mut tables.entries, &row, rest, row.count, here);
+    assemble(&mut tables.nodes, all, 0)
 }
 
 // Whether a value is the one at a place of a row where the key was found, or there is none in either.
@@ -164,18 +169,17 @@ fn estimate_of(count: usize, some: bool, same: bool) -> Estimate
 
 // What setting one key of a branch at the deepest level would make of it.
 pub fn estimate_row<K: Key, V: Value>(
-    nodes: &NodeTable,
-    entries: &EntryTable<K, V>,
+    tables: &Tables<K, V>,
     at: Branch,
     key: &K,
     value: Option<V>,
 ) -> Estimate
-    requires { Seen K.Key.kind V.Value.kind K.Key.bytes V.Value.bytes (tables_of nodes.now entries.now) at (K.Key.bytes key.now) (value_bytes V.Value.bytes value) 0 }
-    ensures { Estimated K.Key.kind V.Value.kind K.Key.bytes V.Value.bytes (tables_of nodes.now entries.now) at (K.Key.bytes key.now) (value_bytes V.Value.bytes value) 0 result }
+    requires { Seen K.Key.kind V.Value.kind K.Key.bytes V.Value.bytes (tables_of tables.now) at (K.Key.bytes key.now) (value_bytes V.Value.bytes value) 0 }
+    ensures { Estimated K.Key.kind V.Value.kind K.Key.bytes V.Value.bytes (tables_of tables.now) at (K.Key.bytes key.now) (value_bytes V.Value.bytes value) 0 result }
 {
-    let row = row_of(nodes, at);
-    let (place, found) = find_in(entries, &row, key);
-    let same = same_value(entries, &row, place, found, value);
+    let row = row_of(&tables.nodes, at);
+    let (place, found) = find_in(&tables.entries, &row, key);
+    let same = same_value(&tables.entries, &row, place, found, value);
     let some = value.is_some();
     let count = row.count - usize::from(found) + usize::from(some);
     estimate_of(count, some, same)

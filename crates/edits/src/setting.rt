@@ -7,23 +7,22 @@ ghost use Rattle.edits.specs.Sets.{Ready, Done, FoundAlone, value_bytes};
 use super::rows::set_row;
 use branches::{Branch, assemble, at_digit, digit_of, empty_handed, keep, setting_of, take_up};
 use kinds::{Key, Value};
-use tables::{EntryTable, NodeTable, make_entry};
+use tables::{Digit, Tables, make_entry};
 
 // Whether a branch has no setting of another key, as an entry.
 pub(crate) fn is_alone<K: Key, V: Value>(
-    nodes: &NodeTable,
-    entries: &EntryTable<K, V>,
+    tables: &Tables<K, V>,
     at: Branch,
     level: u8,
     key: &K,
 ) -> bool
-    requires { SomePart K.Key.kind K.Key.bytes V.Value.bytes (tables_of nodes.now entries.now) at level }
-    ensures { FoundAlone K.Key.kind K.Key.bytes V.Value.bytes (tables_of nodes.now entries.now) at (K.Key.bytes key.now) result }
+    requires { SomePart K.Key.kind K.Key.bytes V.Value.bytes (tables_of tables.now) at level }
+    ensures { FoundAlone K.Key.kind K.Key.bytes V.Value.bytes (tables_of tables.now) at (K.Key.bytes key.now) result }
 {
     match at {
         Branch::Nothing => true,
         Branch::Entry(id) => {
-            let (mine, _) = setting_of(entries, id);
+            let (mine, _) = setting_of(&tables.entries, id);
             mine.same(key)
         }
         Branch::Child(_) => false,
@@ -32,36 +31,36 @@ pub(crate) fn is_alone<K: Key, V: Value>(
 
 // The branch with the value at the key, or with nothing there: the path to the key is new, all else is kept.
 pub fn set<K: Key, V: Value>(
-    nodes: &mut NodeTable,
-    entries: &mut EntryTable<K, V>,
+    tables: &mut Tables<K, V>,
     at: Branch,
     key: &K,
     value: Option<V>,
     level: u8,
 ) -> Branch
-    requires { Ready K.Key.kind V.Value.kind K.Key.bytes V.Value.bytes (tables_of nodes.old entries.old) at (K.Key.bytes key.now) (value_bytes V.Value.bytes value) level }
-    ensures { Done K.Key.kind V.Value.kind K.Key.bytes V.Value.bytes (tables_of nodes.old entries.old) at (K.Key.bytes key.now) (value_bytes V.Value.bytes value) level result (tables_of nodes.new entries.new) }
+    requires { Ready K.Key.kind V.Value.kind K.Key.bytes V.Value.bytes (tables_of tables.old) at (K.Key.bytes key.now) (value_bytes V.Value.bytes value) level }
+    ensures { Done K.Key.kind V.Value.kind K.Key.bytes V.Value.bytes (tables_of tables.old) at (K.Key.bytes key.now) (value_bytes V.Value.bytes value) level result (tables_of tables.new) }
 {
-    if level < 8 && is_alone(nodes, entries, at, level, key) {
+    if level < 8 && is_alone(tables, at, level, key) {
         return match value {
-            Some(value) => Branch::Entry(make_entry(entries, *key, value)),
+            Some(value) => Branch::Entry(make_entry(&mut tables.entries, *key, value)),
             None => Branch::Nothing,
         };
     }
     if level == 0 {
-        return set_row(nodes, entries, at, key, value);
+        return set_row(tables, at, key, value);
     }
     let digit = digit_of(key.hash(), level);
     let mut hand = empty_handed();
-    for g in 0u8..16 {
-        let old = at_digit(nodes, entries, at, level, g);
-        let new = if g == digit {
-            set(nodes, entries, old, key, value, level - 1)
+    for number in 0u8..16 {
+        let g = Digit { number };
+        let old = at_digit(tables, at, level, g);
+        let new = if number == digit.number {
+            set(tables, old, key, value, level - 1)
         } else {
-            keep(nodes, entries, old);
+            keep(tables, old);
             old
         };
         hand = take_up(hand, g, new);
     }
-    assemble(nodes, hand, level)
+    assemble(&mut tables.nodes, hand, level)
 }

@@ -1,5 +1,4 @@
-use Rattle.std.proofs.Common.{refl, arith}
-use mir.Facts.{Fits-below}
+use Rattle.std.proofs.Common.{refl}
 use Rattle.edits.proofs.TakenUp.{keep_start, keep_held, keep_heap, keep_few, keep_fits, keep_step, keep_end}
 use Rattle.edits.proofs.rows.keep_range.Goals as goal
 
@@ -12,14 +11,11 @@ hold_entry-requires g c = record {
   heap = keep_heap _ _ _ _ _ _ _ _ _ _ c.requires _ _ _ _ _ c.loop-j.invariant c.loop-j.auto.j c.loop-j-test.true;
 }
 
-pub overflow_cast-all : goal.overflow_cast-all
-overflow_cast-all g c = Fits-below {n = 15} tt (omega (arith, keep_few _ _ _ _ _ _ _ _ _ _ c.requires _ _ _ _ _ c.loop-j.invariant c.loop-j.auto.j c.loop-j-test.true))
-
 pub take_up-all-requires : goal.take_up-all-requires
 take_up-all-requires g c =
     let few = keep_few _ _ _ _ _ _ _ _ _ _ c.requires _ _ _ _ _ c.loop-j.invariant c.loop-j.auto.j c.loop-j-test.true in
     let fits = keep_fits _ _ _ _ _ _ _ _ _ _ c.requires _ _ _ _ _ c.loop-j.invariant c.loop-j.auto.j c.loop-j-test.true in
-    record { digit = few; singles = few; kids = fits.0; data_fits = fits.1.0; node_fits = fits.1.1 }
+    record { singles = few; kids = fits.0; data_fits = fits.1.0; node_fits = fits.1.1 }
 
 pub loop-j-preserved : goal.loop-j-preserved
 loop-j-preserved g c =

@@ -1,6 +1,6 @@
 use Rattle.std.proofs.Common.{◌≡◌, ◌≤◌, length, sym, arith, rules}
 use lib.Count.{ones}
-use Rattle.branches.proofs.Bundles.{listed_take}
+use Rattle.tables.proofs.Listed.{listed_take}
 use Rattle.edits.proofs.rows.row_in.Goals as goal
 
 pub returns : goal.returns

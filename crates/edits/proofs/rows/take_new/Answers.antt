@@ -1,19 +1,15 @@
-use Rattle.std.proofs.Common.{is_some, ap, arith}
-use mir.Facts.{Fits-below}
+use Rattle.std.proofs.Common.{is_some, ap}
 use Rattle.edits.proofs.TakenUp.{rowful_fits, added_some, added_none}
 use Rattle.edits.proofs.rows.take_new.Goals as goal
 
 pub make_entry-id-requires : goal.make_entry-id-requires
 make_entry-id-requires g c = record { some = c.requires.spare (ap is_some c.in-Some.is); heap = c.requires.heap }
 
-pub overflow_cast-hand : goal.overflow_cast-hand
-overflow_cast-hand g c = Fits-below {n = 15} tt (omega (arith, c.requires.room (ap is_some c.in-Some.is)))
-
 pub take_up-requires : goal.take_up-requires
 take_up-requires g c =
     let few = c.requires.room (ap is_some c.in-Some.is) in
     let fits = rowful_fits _ _ c.requires.rowful in
-    record { digit = few; singles = few; kids = fits.0; data_fits = fits.1.0; node_fits = fits.1.1 }
+    record { singles = few; kids = fits.0; data_fits = fits.1.0; node_fits = fits.1.1 }
 
 pub returns-in-Some : goal.returns-in-Some
 returns-in-Some g c = added_some _ _ _ _ _ _ c.requires _ c.in-Some.is _ _ _ _ _ c.make_entry-id.ensures c.take_up.ensures

@@ -6,7 +6,7 @@ use Rattle.edits.proofs.setting.+set.Given as goal
 abbrev pub decreases-set : goal.decreases-set
 decreases-set g l = l.level
 
-abbrev pub invariant-loop-g : goal.invariant-loop-g
-invariant-loop-g g l =
-    Underway g.K.Key.kind g.V.Value.kind g.K.Key.bytes g.V.Value.bytes (tables_of l.initial.nodes l.initial.entries) l.at (g.K.Key.bytes l.key) (value_bytes g.V.Value.bytes l.value) l.level
-    l.g l.hand (tables_of l.nodes l.entries)
+abbrev pub invariant-loop-number : goal.invariant-loop-number
+invariant-loop-number g l =
+    Underway g.K.Key.kind g.V.Value.kind g.K.Key.bytes g.V.Value.bytes (tables_of l.initial.tables) l.at (g.K.Key.bytes l.key) (value_bytes g.V.Value.bytes l.value) l.level
+    l.number l.hand (tables_of l.tables)
