@@ -17,9 +17,7 @@ impl<'a, K: Key, V: Value> Store<'a, K, V> {
     {
         match self.spot_at(place)? {
             Spot::Empty => Err(Refusal::NotReadable),
-            Spot::Draft(root) | Spot::Published(root) => {
-                Ok(look_up(&self.nodes, &self.entries, root, 8, key))
-            }
+            Spot::Draft(root) | Spot::Published(root) => { Ok(look_up(&self.tables, root, 8, key)) }
         }
     }
 
@@ -30,9 +28,7 @@ impl<'a, K: Key, V: Value> Store<'a, K, V> {
     {
         match self.spot_at(place)? {
             Spot::Empty => Err(Refusal::NotReadable),
-            Spot::Draft(root) | Spot::Published(root) => {
-                Ok(count(&self.nodes, &self.entries, root, 8))
-            }
+            Spot::Draft(root) | Spot::Published(root) => { Ok(count(&self.tables, root, 8)) }
         }
     }
 
@@ -41,6 +37,6 @@ impl<'a, K: Key, V: Value> Store<'a, K, V> {
         requires { Started K.Key.kind V.Value.kind K.Key.bytes V.Value.bytes (state self.now) }
         ensures { Answered K.Key.kind V.Value.kind K.Key.bytes V.Value.bytes (state self.now) (state self.now) Free (spare result.0 result.1) }
     {
-        (self.nodes.spare, self.entries.spare)
+        (self.tables.nodes.spare, self.tables.entries.spare)
     }
 }

@@ -31,7 +31,7 @@ impl<'a, K: Key, V: Value> Store<'a, K, V> {
     {
         match self.spot_at(place)? {
             Spot::Draft(root) => {
-                give_up(&mut self.nodes, &mut self.entries, root);
+                give_up(&mut self.tables, root);
                 self.places[place as usize] = Spot::Empty;
                 Ok(())
             }
@@ -46,7 +46,7 @@ impl<'a, K: Key, V: Value> Store<'a, K, V> {
     {
         match self.spot_at(place)? {
             Spot::Published(version) => {
-                give_up(&mut self.nodes, &mut self.entries, version);
+                give_up(&mut self.tables, version);
                 self.places[place as usize] = Spot::Empty;
                 Ok(())
             }

@@ -38,7 +38,7 @@ impl<'a, K: Key, V: Value> Store<'a, K, V> {
         };
         match to {
             Spot::Empty => {
-                hold_root(&mut self.nodes, root);
+                hold_root(&mut self.tables.nodes, root);
                 self.places[place as usize] = Spot::Draft(root);
                 Ok(())
             }

@@ -3,10 +3,10 @@ ghost use Rattle.std.specs.Prelude.{ℕ, ◌≤◌, List, ◌++◌, length};
 ghost use Rattle.tables.specs.Heaps.{Nodes, Entries, Entryless};
 ghost use Rattle.branches.specs.Branches.{node_of};
 ghost use Rattle.store.specs.Spots.{RootHeld, HeldRoot, GivenUp};
-ghost use Rattle.store.specs.Views.{tables_of};
+ghost use Rattle.branches.specs.States.{tables_of};
 
 use branches::Branch;
-use tables::{EntryTable, NodeTable, hold_node, release};
+use tables::{NodeTable, Tables, hold_node};
 
 // One more holder of a root.
 pub(crate) fn hold_root(nodes: &mut NodeTable, root: Branch)
@@ -20,17 +20,13 @@ pub(crate) fn hold_root(nodes: &mut NodeTable, root: Branch)
 }
 
 // Gives up a root, with every node and entry that nobody holds any more.
-pub(crate) fn give_up<K: Copy, V: Copy>(
-    nodes: &mut NodeTable,
-    entries: &mut EntryTable<K, V>,
-    root: Branch,
-)
-    requires nodes { (R : List ℕ) × Nodes nodes.old.cells.now nodes.old.free nodes.old.spare (node_of root ++ R) }
-    requires entries { (E : List ℕ) × Entries nodes.old.cells.now entries.old.cells.now entries.old.free entries.old.spare E }
-    requires entryless { Entryless nodes.old.cells.now }
-    ensures { GivenUp (node_of root) (tables_of nodes.old entries.old) (tables_of nodes.new entries.new) }
+pub(crate) fn give_up<K: Copy, V: Copy>(tables: &mut Tables<K, V>, root: Branch)
+    requires nodes { (R : List ℕ) × Nodes tables.old.nodes.cells.now tables.old.nodes.free tables.old.nodes.spare (node_of root ++ R) }
+    requires entries { (E : List ℕ) × Entries tables.old.nodes.cells.now tables.old.entries.cells.now tables.old.entries.free tables.old.entries.spare E }
+    requires entryless { Entryless tables.old.nodes.cells.now }
+    ensures { GivenUp (node_of root) (tables_of tables.old) (tables_of tables.new) }
 {
     if let Branch::Child(id) = root {
-        release(nodes, entries, id);
+        tables.release(id);
     }
 }

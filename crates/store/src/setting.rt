@@ -43,18 +43,18 @@ impl<'a, K: Key, V: Value> Store<'a, K, V> {
             Spot::Draft(root) => root,
             _ => return Err(Refusal::NotADraft),
         };
-        let plan = estimate_set(&self.nodes, &self.entries, root, key, value, 8);
+        let plan = estimate_set(&self.tables, root, key, value, 8);
         if plan.crowded {
             return Err(Refusal::Crowded);
         }
-        if plan.nodes > self.nodes.spare || plan.entries > self.entries.spare {
+        if plan.nodes > self.tables.nodes.spare || plan.entries > self.tables.entries.spare {
             return Err(Refusal::NoRoom);
         }
         if plan.ours {
             return Ok((plan.nodes, plan.entries));
         }
-        let new = set(&mut self.nodes, &mut self.entries, root, key, value, 8);
-        give_up(&mut self.nodes, &mut self.entries, root);
+        let new = set(&mut self.tables, root, key, value, 8);
+        give_up(&mut self.tables, root);
         self.places[place as usize] = Spot::Draft(new);
         Ok((plan.nodes, plan.entries))
     }

@@ -7,7 +7,7 @@ ghost use Rattle.std.specs.Prelude.{◌≡◌};
 use super::spot::Spot;
 use super::store::Store;
 use kinds::{Key, Refusal, Value};
-use tables::{EntryCell, EntryTable, NodeCell, NodeTable};
+use tables::{EntryCell, EntryTable, NodeCell, NodeTable, Tables};
 
 // What a start that is refused gives back: the two tables as they were, and why.
 #[derive(Drop)]
@@ -37,8 +37,10 @@ pub(crate) fn over<'a, K: Key, V: Value>(
         spare: entry_spare,
     };
     Store {
-        nodes: node_table,
-        entries: entry_table,
+        tables: Tables {
+            nodes: node_table,
+            entries: entry_table,
+        },
         places: [Spot::Empty; 64],
     }
 }

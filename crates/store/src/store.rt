@@ -3,12 +3,11 @@ ghost use Rattle.store.specs.Spots.{Judged};
 
 use super::spot::Spot;
 use kinds::{Key, Refusal, Value};
-use tables::{EntryTable, NodeTable};
+use tables::Tables;
 
 #[derive(Drop)]
 pub struct Store<'a, K, V> {
-    pub nodes: NodeTable<'a>,
-    pub entries: EntryTable<'a, K, V>,
+    pub tables: Tables<'a, K, V>,
     pub places: [Spot; 64],
 }
 

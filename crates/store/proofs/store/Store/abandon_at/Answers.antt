@@ -1,5 +1,6 @@
 use Rattle.std.proofs.lemmas.Result.{err_from_is_err_and}
-use Rattle.store.specs.Views.{state, tables_of}
+use Rattle.branches.specs.States.{tables_of}
+use Rattle.store.specs.Views.{state}
 use Rattle.store.proofs.Answering.{err_shown}
 use Rattle.store.proofs.Ended.{abandon_nowhere, abandon_no_draft, abandoned, root_apart}
 use Rattle.store.proofs.store.Store.abandon_at.Goals as goal
@@ -24,4 +25,4 @@ give_up-requires g c =
     }
 
 pub returns-in-Draft : goal.returns-in-Draft
-returns-in-Draft g c = let h = c.in_ok-root.ensures in abandoned _ _ _ _ (state c.args.self.now) _ c.in-Draft.root c.in_ok-root.field-0 (tables_of c.give_up.new.nodes c.give_up.new.entries) h.0 h.1 c.in-Draft.is c.give_up.ensures
+returns-in-Draft g c = let h = c.in_ok-root.ensures in abandoned _ _ _ _ (state c.args.self.now) _ c.in-Draft.root c.in_ok-root.field-0 (tables_of c.give_up.new.tables) h.0 h.1 c.in-Draft.is c.give_up.ensures

@@ -1,5 +1,6 @@
 use Rattle.std.proofs.lemmas.Result.{err_from_is_err_and}
-use Rattle.store.specs.Views.{state, tables_of}
+use Rattle.branches.specs.States.{tables_of}
+use Rattle.store.specs.Views.{state}
 use Rattle.store.proofs.Answering.{err_shown}
 use Rattle.store.proofs.Ended.{retire_nowhere, retire_unpublished, retired, root_apart}
 use Rattle.store.proofs.store.Store.retire_at.Goals as goal
@@ -24,4 +25,4 @@ give_up-requires g c =
     }
 
 pub returns-in-Published : goal.returns-in-Published
-returns-in-Published g c = let h = c.in_ok-version.ensures in retired _ _ _ _ (state c.args.self.now) _ c.in-Published.version c.in_ok-version.field-0 (tables_of c.give_up.new.nodes c.give_up.new.entries) h.0 h.1 c.in-Published.is c.give_up.ensures
+returns-in-Published g c = let h = c.in_ok-version.ensures in retired _ _ _ _ (state c.args.self.now) _ c.in-Published.version c.in_ok-version.field-0 (tables_of c.give_up.new.tables) h.0 h.1 c.in-Published.is c.give_up.ensures

@@ -49,11 +49,11 @@ set-new-requires g c =
 pub give_up-requires : goal.give_up-requires
 give_up-requires g c =
     let h = c.in_ok-root.ensures in
-    let o = old_root _ g.V.Value.kind _ _ (state c.args.self.now) _ _ (g.met.K.Key.readable c.args.key.now) (value_made g.V.Value.kind _ g.met.V.Value.readable c.args.value) _ h.0 _ c.in_ok-root.field-0 h.1 c.in-Draft.is _ c.estimate_set-plan.ensures c.if-plan.false c.if-plan-self.false c.if-plan-self-2.false c.if-plan-2.false _ (tables_of c.set-new.new.nodes c.set-new.new.entries) c.set-new.ensures c.requires in
+    let o = old_root _ g.V.Value.kind _ _ (state c.args.self.now) _ _ (g.met.K.Key.readable c.args.key.now) (value_made g.V.Value.kind _ g.met.V.Value.readable c.args.value) _ h.0 _ c.in_ok-root.field-0 h.1 c.in-Draft.is _ c.estimate_set-plan.ensures c.if-plan.false c.if-plan-self.false c.if-plan-self-2.false c.if-plan-2.false _ (tables_of c.set-new.new.tables) c.set-new.ensures c.requires in
     record { nodes = o.0; entries = o.1.0; entryless = o.1.1 }
 
 pub returns : goal.returns
 returns g c =
     let h = c.in_ok-root.ensures in
     edit_built _ g.V.Value.kind _ _ (state c.args.self.now) _ _ (g.met.K.Key.readable c.args.key.now) (value_made g.V.Value.kind _ g.met.V.Value.readable c.args.value) _ h.0 _ c.in_ok-root.field-0 h.1 c.in-Draft.is _ c.estimate_set-plan.ensures c.if-plan.false c.if-plan-self.false c.if-plan-self-2.false c.if-plan-2.false
-    _ (tables_of c.set-new.new.nodes c.set-new.new.entries) c.set-new.ensures (tables_of c.give_up.new.nodes c.give_up.new.entries) c.give_up.ensures
+    _ (tables_of c.set-new.new.tables) c.set-new.ensures (tables_of c.give_up.new.tables) c.give_up.ensures
