@@ -1,29 +1,19 @@
 // Taking up the branches of a node digit by digit.
-ghost use Rattle.std.specs.Prelude.{◌≡◌, ◌+◌, ◌^◌, ◌<◌};
+ghost use Rattle.std.specs.Prelude.{◌≡◌, ◌^◌, ◌<◌};
 ghost use Rattle.branches.specs.Handfuls.{nothing_in_hand, with_branch, Assembling, Assembled};
 
 use super::branch::Branch;
-use super::handful::Handful;
 use tables::{Digit, EntryId, NodeCell, NodeTable, make_node};
 
-// Nothing in hand.
-pub fn empty_handed() -> Handful
+// Nothing in hand: what is taken up for a node is kept as the node's cell, without its level.
+pub fn empty_handed() -> NodeCell
     ensures { result ≡ nothing_in_hand }
 {
-    Handful {
-        datamap: 0,
-        nodemap: 0,
-        entries: [0; 16],
-        children: [0; 16],
-        singles: 0,
-        kids: 0,
-    }
+    NodeCell::empty()
 }
 
 // The branch of a digit, in hand after those of the lower digits.
-pub fn take_up(hand: Handful, digit: Digit, branch: Branch) -> Handful
-    requires singles { hand.singles < 16 }
-    requires kids { hand.kids < 16 }
+pub fn take_up(hand: NodeCell, digit: Digit, branch: Branch) -> NodeCell
     requires data_fits { hand.datamap < 2 ^ digit.number }
     requires node_fits { hand.nodemap < 2 ^ digit.number }
     ensures { result ≡ with_branch hand digit.number branch }
@@ -33,38 +23,29 @@ pub fn take_up(hand: Handful, digit: Digit, branch: Branch) -> Handful
         Branch::Nothing => {}
         Branch::Entry(e) => {
             next.datamap += 1 << digit.number;
-            next.entries[hand.singles] = e.0;
-            next.singles += 1;
+            next.entries[hand.datamap.count_ones() as usize] = e.0;
         }
         Branch::Child(i) => {
             next.nodemap += 1 << digit.number;
-            next.children[hand.kids] = i.0;
-            next.kids += 1;
+            next.children[hand.nodemap.count_ones() as usize] = i.0;
         }
     }
     next
 }
 
 // What is in hand as a branch: nothing, an entry alone, or a new node over it.
-pub fn assemble(nodes: &mut NodeTable, hand: Handful, level: u8) -> Branch
+pub fn assemble(nodes: &mut NodeTable, hand: NodeCell, level: u8) -> Branch
     requires { Assembling hand level nodes.old.cells.now nodes.old.free nodes.old.spare }
     ensures { Assembled hand level result nodes.old.cells.now nodes.old.free nodes.old.spare nodes.new.cells.now nodes.new.free nodes.new.spare }
 {
-    if hand.kids == 0 {
-        if hand.singles == 0 {
+    if hand.nodemap.count_ones() == 0 {
+        let singles = hand.datamap.count_ones();
+        if singles == 0 {
             return Branch::Nothing;
         }
-        if hand.singles == 1 && level < 8 {
+        if singles == 1 && level < 8 {
             return Branch::Entry(EntryId(hand.entries[0]));
         }
     }
-    let node = NodeCell {
-        datamap: hand.datamap,
-        nodemap: hand.nodemap,
-        entries: hand.entries,
-        children: hand.children,
-        level,
-        ..NodeCell::empty()
-    };
-    Branch::Child(make_node(nodes, node))
+    Branch::Child(make_node(nodes, NodeCell { level, ..hand }))
 }

@@ -4,13 +4,11 @@
 mod asking;
 mod assembling;
 mod branch;
-mod handful;
 mod keeping;
 mod reading;
 
 pub use asking::{count, look_up};
 pub use assembling::{assemble, empty_handed, take_up};
 pub use branch::Branch;
-pub use handful::Handful;
 pub use keeping::keep;
 pub use reading::{at_digit, digit_of, setting_of};
