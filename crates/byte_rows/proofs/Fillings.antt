@@ -1,8 +1,11 @@
 -- Texts and their filling. Assumes nothing.
-use Rattle.std.proofs.Common.{◌≡◌, ℕ, zero, suc, ◌+◌, ◌-◌, ◌^◌, ◌<◌, ◌≤◌, Bool, true, false, ◌&&◌, eqb, leb, ◌⊎◌, List, [], ◌∷◌, ◌++◌, length, get_or, take, drop, replicate, Decides, fold, sym, refl, ap, ◌∙◌, ap₂, arith, length-append}
+use Rattle.std.proofs.Common.{◌≡◌, ℕ, zero, suc, ◌+◌, ◌-◌, ◌^◌, ◌<◌, ◌≤◌, Bool, true, false, not, cond, ◌&&◌, eqb, leb, ltb, List, [], ◌∷◌, ◌++◌, length, take, drop, replicate, Decides, Some, None, fold, sym, refl, ap, ◌∙◌, ap₂, arith, length-append}
+use Rattle.std.specs.List.{position, position_or_len}
+use Rattle.std.specs.Option.{unwrap_or}
+use Rattle.std.proofs.Math.Numerals.{one-add}
 use lib.ListN.{length-replicate}
-use Rattle.std.proofs.lemmas.List.{at_drop_more, at_drop_all, append-nil, append_assoc, take_more, take_all, take-append-drop, drop_at, length-drop, length-take-le, drop-replicate, get_or-replicate, replicate_more}
-use Rattle.std.proofs.lemmas.Bool.{and_parts, and_from, and_left, eqb-true, eq-eqb, lt-ltb, leb-true, le-leb, cond-true, cond-false, ne_eqb, false≢true}
+use Rattle.std.proofs.lemmas.List.{take_all, take-append-drop, drop_at, length-drop, length-take-le, drop-replicate}
+use Rattle.std.proofs.lemmas.Bool.{and_parts, and_from, eqb-true, eq-eqb, lt-ltb, leb-true, le-leb, cond-true, cond-false, ne_eqb}
 use Rattle.std.proofs.lemmas.Bool.Decides.{nat_tests, same_from_decides}
 use Rattle.byte_rows.specs.Rows.{byte_row, written}
 use Rattle.byte_rows.specs.Texts.{printable, is_all_printable, text_of, filled, unfilled, text_row, fnv_step, fnv}
@@ -73,41 +76,26 @@ fnv_fits bs = go bs 0x811C9DC5 (omega arith)
     go [] h f = f
     go (b ∷ l) h f = go l (fnv_step h b) (omega arith)
 
--- ---- loops over a row
+-- ---- what the chains over a row find
 
--- the text ends where a 00 stands
-pub unfilled_here : (xs : List ℕ) (i : ℕ) → i < length xs → get_or xs i 0 ≡ 0 → unfilled xs ≡ take i xs ++ unfilled (drop i xs) → take i xs ≡ unfilled xs
-unfilled_here xs i h z e =
-    let next : unfilled (drop i xs) ≡ [] = at_drop_more unfilled xs i 0 h ∙ cond-true (eqb (get_or xs i 0) 0) _ _ (eq-eqb _ _ z) in
-    sym (e ∙ ap (λ r. take i xs ++ r) next ∙ append-nil _)
-
--- and else goes on
-pub unfilled_on : (xs : List ℕ) (i : ℕ) → i < length xs → (get_or xs i 0 ≡ 0 → ⊥) → unfilled xs ≡ take i xs ++ unfilled (drop i xs) → unfilled xs ≡ take (i + 1) xs ++ unfilled (drop (i + 1) xs)
-unfilled_on xs i h z e =
-    let next : unfilled (drop i xs) ≡ get_or xs i 0 ∷ unfilled (drop (i + 1) xs) = at_drop_more unfilled xs i 0 h ∙ cond-false (eqb (get_or xs i 0) 0) _ _ (ne_eqb _ _ z) in
-    e ∙ ap (λ r. take i xs ++ r) next ∙ sym (ap (λ r. r ++ unfilled (drop (i + 1) xs)) (take_more xs i 0 h) ∙ append_assoc (take i xs) _ _)
-
-pub unfilled_all : (xs : List ℕ) (i : ℕ) → length xs ≤ i → unfilled xs ≡ take i xs ++ unfilled (drop i xs) → take (length xs) xs ≡ unfilled xs
-unfilled_all xs i h e =
-    take_all _ xs (omega arith) ∙ sym (e ∙ ap (λ r. take i xs ++ r) (at_drop_all unfilled xs i h) ∙ append-nil _ ∙ take_all _ xs h)
-
--- the whole prints where what is left does: a byte that prints is passed, one that does not decides
-pub prints_on : (xs : List ℕ) (i : ℕ) → i < length xs → 0x21 ≤ get_or xs i 0 → get_or xs i 0 ≤ 0x7E → is_all_printable (drop i xs) ≡ is_all_printable xs → is_all_printable (drop (i + 1) xs) ≡ is_all_printable xs
-prints_on xs i h low high e =
-    let here : is_all_printable (drop i xs) ≡ (printable (get_or xs i 0) && is_all_printable (drop (i + 1) xs)) = at_drop_more is_all_printable xs i 0 h in
-    sym (ap (λ t. t && is_all_printable (drop (i + 1) xs)) (and_from _ _ (le-leb _ _ low) (le-leb _ _ high))) ∙ sym here ∙ e
-
-pub prints_not : (xs : List ℕ) (i : ℕ) → i < length xs → (get_or xs i 0 < 0x21) ⊎ (0x7E < get_or xs i 0) → is_all_printable (drop i xs) ≡ is_all_printable xs → false ≡ is_all_printable xs
-prints_not xs i h out e =
-    let here : is_all_printable (drop i xs) ≡ (printable (get_or xs i 0) && is_all_printable (drop (i + 1) xs)) = at_drop_more is_all_printable xs i 0 h in
-    let bad : printable (get_or xs i 0) ≡ false = unprintable (get_or xs i 0) out in
-    sym (sym e ∙ here ∙ and_left _ _ bad)
+before_first_zero : (bs : List ℕ) → take (position_or_len (λ b. eqb b 0) bs) bs ≡ unfilled bs
+before_first_zero [] = refl
+before_first_zero (b ∷ bs) = here (eqb b 0) (before_first_zero bs)
   where
-    unprintable : (b : ℕ) → (b < 0x21) ⊎ (0x7E < b) → printable b ≡ false
-    unprintable b o = grind (arith, nat_tests)
+    here : (t : Bool) → take (position_or_len (λ b. eqb b 0) bs) bs ≡ unfilled bs → take (cond (not t) (1 + position_or_len (λ b. eqb b 0) bs) 0) (b ∷ bs) ≡ cond t [] (b ∷ unfilled bs)
+    here true rest = refl
+    here false rest = ap (λ n. take n (b ∷ bs)) (one-add _) ∙ ap (λ r. b ∷ r) rest
 
-pub prints_all : (xs : List ℕ) (i : ℕ) → length xs ≤ i → is_all_printable (drop i xs) ≡ is_all_printable xs → true ≡ is_all_printable xs
-prints_all xs i h e = sym (sym e ∙ at_drop_all is_all_printable xs i h)
+-- the text ends at the first 00, or with the row
+pub before_zero : (bs : List ℕ) → take (unwrap_or (position (λ b. eqb b 0) bs) (length bs)) bs ≡ unfilled bs
+before_zero bs = within (ltb first (length bs)) refl ∙ before_first_zero bs
+  where
+    first : ℕ
+    first = position_or_len (λ b. eqb b 0) bs
+
+    within : (t : Bool) → ltb first (length bs) ≡ t → take (unwrap_or (cond t (Some first) None) (length bs)) bs ≡ take first bs
+    within true e = refl
+    within false e = take_all (length bs) bs (omega arith) ∙ sym (take_all first bs (grind (arith, nat_tests)))
 
 -- what is written over a row of 00 is filled
 pub written_filled : (w : ℕ) (t : List ℕ) → length t ≤ w → written t (replicate w 0) ≡ filled w t
@@ -150,16 +138,3 @@ text_row_is w n bs z within text zeros = same_from_decides _ _ (there, back) (te
         let size : length (drop n bs) ≡ w - length (unfilled bs) = ap length rest ∙ length-replicate {A = ℕ} _ 0 in
         and_from _ _ (and_from _ _ (ap (text_of w) text ∙ h.0) (eq-eqb _ _ (ap length h.1 ∙ length_filled w _ parts.fits)))
         (zeros.1 (rest ∙ ap (λ m. replicate m 0) (sym size)))
-
--- ---- a loop over 00
-
-pub zeros_not : (xs : List ℕ) (i : ℕ) → i < length xs → (get_or xs i 0 ≡ 0 → ⊥) → Decides false (xs ≡ replicate (length xs) 0)
-zeros_not xs i h z = (λ e. absurd (false≢true e), λ e. absurd (z (ap (λ l. get_or l i 0) e ∙ get_or-replicate (length xs) i 0 0 h)))
-
-pub zeros_on : (xs : List ℕ) (i : ℕ) → i < length xs → get_or xs i 0 ≡ 0 → take i xs ≡ replicate i 0 → take (i + 1) xs ≡ replicate (i + 1) 0
-zeros_on xs i h z e = take_more xs i 0 h ∙ ap (λ l. l ++ (get_or xs i 0 ∷ [])) e ∙ ap (λ b. replicate i 0 ++ (b ∷ [])) z ∙ replicate_more i 0
-
-pub zeros_all : (xs : List ℕ) (i : ℕ) → length xs ≤ i → i ≤ length xs → take i xs ≡ replicate i 0 → Decides true (xs ≡ replicate (length xs) 0)
-zeros_all xs i h k e =
-    let whole : i ≡ length xs = omega arith in
-    (λ _. sym (take_all i xs h) ∙ e ∙ ap (λ n. replicate n 0) whole, λ _. refl)

@@ -6,10 +6,7 @@ ghost use Rattle.byte_rows.specs.Rows.{Reads, row_of, in_bytes};
 pub fn read_u32(row: &[u8]) -> Option<u32>
     ensures { Reads (row_of 4) (in_bytes 4) row.now result }
 {
-    match row {
-        [a, b, c, d] => Some(u32::from_be_bytes([*a, *b, *c, *d])),
-        _ => None,
-    }
+    <[u8; 4]>::try_from(row).ok().map(u32::from_be_bytes)
 }
 
 // The stamp and the offset in a row of six bytes.

@@ -1,18 +1,15 @@
 // Printable texts, their filling and their hash.
-ghost use Rattle.std.specs.Prelude.{◌≡◌, ◌≤◌, true, length, take, replicate, if◌then◌else◌, Decides, nat_le};
-ghost use Rattle.byte_rows.specs.Texts.{is_all_printable, text_of, filled, unfilled, text_row, fnv};
+ghost use Rattle.std.specs.Prelude.{◌≡◌, ◌≤◌, ◌==◌, true, length, take, position, replicate, if◌then◌else◌, Decides, nat_le};
+ghost use Rattle.std.specs.List.{list_all};
+ghost use Rattle.std.specs.Char.{is_ascii_graphic};
+ghost use Rattle.byte_rows.specs.Texts.{text_of, filled, unfilled, text_row, fnv};
 
 use super::rows::write_row;
 
 fn all_printable(text: &[u8]) -> bool
-    ensures { result ≡ is_all_printable text.now }
+    ensures { result ≡ list_all is_ascii_graphic text.now }
 {
-    for b in text {
-        if *b < 0x21 || *b > 0x7E {
-            return false;
-        }
-    }
-    true
+    text.iter().all(|b| b.is_ascii_graphic())
 }
 
 // Whether this is a text of 1 to `width` bytes, each from 21 to 7E.
@@ -22,25 +19,26 @@ pub fn is_text(text: &[u8], width: usize) -> bool
     1 <= text.len() && text.len() <= width && all_printable(text)
 }
 
+// Where the first 00 stands.
+fn first_zero(row: &[u8]) -> Option<usize>
+    ensures { result ≡ position (λ b. b == 0) row.now }
+{
+    row.iter().position(|b| *b == 0)
+}
+
 // How many bytes stand before the first 00.
 fn text_length(row: &[u8]) -> usize
     ensures within { result ≤ length row.now }
     ensures text { take result row.now ≡ unfilled row.now }
 {
-    for (i, b) in row.iter().enumerate() {
-        if *b == 0 {
-            return i;
-        }
-    }
-    row.len()
+    first_zero(row).unwrap_or(row.len())
 }
 
 // What stands before the first 00.
 pub fn text(row: &[u8]) -> &[u8]
     ensures { result.now ≡ unfilled row.now }
 {
-    let length = text_length(row);
-    &row[0..length]
+    &row[..text_length(row)]
 }
 
 // Writes a text and fills the rest of `out` with 00; where it does not fit, nothing.
@@ -57,12 +55,7 @@ pub fn fill_row(text: &[u8], out: &mut [u8])
 fn all_zero(row: &[u8]) -> bool
     ensures { Decides result (row.now ≡ replicate (length row.now) 0) }
 {
-    for b in row {
-        if *b != 0 {
-            return false;
-        }
-    }
-    true
+    row.iter().all(|b| *b == 0)
 }
 
 // Whether this is a row of `width` bytes, a text and its filling.
@@ -71,7 +64,7 @@ pub fn is_text_row(row: &[u8], width: usize) -> bool
     ensures long { result ≡ true → length row.now ≡ width }
 {
     let length = text_length(row);
-    let text = is_text(&row[0..length], width);
+    let text = is_text(&row[..length], width);
     let filling = all_zero(&row[length..]);
     text & (row.len() == width) & filling
 }
@@ -80,9 +73,7 @@ pub fn is_text_row(row: &[u8], width: usize) -> bool
 pub fn fnv1a(bytes: &[u8]) -> u32
     ensures { result ≡ fnv bytes.now }
 {
-    let mut hash: u32 = 0x811C_9DC5;
-    for b in bytes {
-        hash = (hash ^ u32::from(*b)).wrapping_mul(0x0100_0193);
-    }
-    hash
+    bytes.iter().fold(0x811C_9DC5, |hash: u32, b| {
+        (hash ^ u32::from(*b)).wrapping_mul(0x0100_0193)
+    })
 }

@@ -1,16 +1,16 @@
 // Paths: names of 1 to 24 printable bytes.
-ghost use Rattle.std.specs.Prelude.{◌≡◌, true};
+ghost use Rattle.std.specs.Prelude.{◌≡◌, refl, true};
 ghost use Rattle.byte_rows.specs.Texts.{text_row, unfilled};
 ghost use Rattle.keys.specs.Keys.{path_kind};
 ghost use Rattle.keys.specs.Making.{Makes};
 ghost use Rattle.byte_rows.proofs.Ones.{row_made};
 ghost use Rattle.std.proofs.Common.{rules};
 
-use kinds::{Key, Refusal};
+use kinds::{Coded, Key, Refusal};
 use std::cmp::Ordering;
 
 // The text of the path, filled with 00.
-#[derive(Clone, Copy)]
+#[derive(Clone, Copy, Debug, PartialEq, Eq, PartialOrd, Ord)]
 pub struct Path {
     filled: [u8; 24],
     ghost text_and_filling: { text_row 24 filled ≡ true },
@@ -21,7 +21,7 @@ impl Path {
     pub fn new(text: &[u8]) -> Result<Path, Refusal>
         ensures { Makes (λ p. p.filled) text.now result }
     {
-        if !byte_rows::is_text(text, <Path as Key>::WIDTH) {
+        if !byte_rows::is_text(text, Path::WIDTH) {
             return Err(Refusal::NotAPath);
         }
         let mut filled = [0; 24];
@@ -37,34 +37,20 @@ impl Path {
     }
 }
 
-impl Key for Path {
+impl Coded for Path {
     const CODE: u8 = 1;
 
     const WIDTH: usize = 24;
 
-    ghost kind = { path_kind };
+    ghost CODE = { path_kind.code };
+
+    ghost WIDTH = { path_kind.width };
+
+    ghost rows = { path_kind.readable };
 
     ghost bytes = { λ k. k.filled };
 
-    ghost readable = { Prim.search rules };
-
-    ghost one = { λ a b e. row_made (text_row 24) (λ row h. record { filled = row; text_and_filling = h }) a.filled b.filled a.text_and_filling b.text_and_filling e };
-
-    fn code_byte() -> u8 {
-        Self::CODE
-    }
-
-    fn byte_width() -> usize {
-        Self::WIDTH
-    }
-
-    fn hash(&self) -> u32 {
-        byte_rows::fnv1a(self.text())
-    }
-
-    fn order(&self, other: &Self) -> Ordering {
-        byte_rows::compare_rows(&self.filled, &other.filled)
-    }
+    ghost one = { λ a b. row_made (text_row 24) (λ row h. record { filled = row; text_and_filling = h }) a.filled b.filled a.text_and_filling b.text_and_filling };
 
     fn write(&self, out: &mut [u8]) {
         byte_rows::write_row(&self.filled, out);
@@ -77,5 +63,21 @@ impl Key for Path {
         let mut filled = [0; 24];
         filled.copy_from_slice(from);
         Some(Path { filled })
+    }
+}
+
+impl Key for Path {
+    ghost kind = { path_kind };
+
+    ghost coded = { (refl, refl, refl) };
+
+    ghost readable = { Prim.search rules };
+
+    fn hash(&self) -> u32 {
+        byte_rows::fnv1a(self.text())
+    }
+
+    fn order(&self, other: &Self) -> Ordering {
+        self.cmp(other)
     }
 }

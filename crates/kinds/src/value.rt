@@ -1,41 +1,21 @@
-// What every kind of value answers, by its bytes alone.
-ghost use Rattle.std.specs.Prelude.{◌≡◌, ℕ, true, List, Decides};
-ghost use Rattle.byte_rows.specs.Rows.{Reads, written};
+// What every kind of value answers besides, by its bytes alone.
+ghost use Rattle.std.specs.Prelude.{◌≡◌, true, Decides};
 ghost use Rattle.kinds.specs.Kinds.{ValueKind};
 
-pub trait Value: Copy {
-    // As for a key.
-    const CODE: u8;
+use super::coded::Coded;
 
-    const WIDTH: usize;
-
+pub trait Value: Coded {
     ghost kind: { ValueKind };
 
-    // A value's meaning.
-    ghost bytes: { Self → List ℕ };
-
-    fn code_byte() -> u8
-        ensures { result ≡ kind.code };
-
-    fn byte_width() -> usize
-        ensures { result ≡ kind.width };
-
     fn same(&self, other: &Self) -> bool
-        ensures { Decides result (bytes self.now ≡ bytes other.now) };
+        ensures { Decides result (Self.bytes self.now ≡ Self.bytes other.now) };
 
     // What two values of one key become.
     fn join(&self, other: &Self) -> Self
-        ensures { bytes result ≡ kind.join (bytes self.now) (bytes other.now) };
+        ensures { Self.bytes result ≡ kind.join (Self.bytes self.now) (Self.bytes other.now) };
 
-    // Writes the bytes from the first place of `out` on; where they do not fit, nothing.
-    fn write(&self, out: &mut [u8])
-        ensures { out.new ≡ written (bytes self.now) out.old };
+    // The byte, the width and the rows are the kind's.
+    ghost coded: { (Self.CODE ≡ kind.code) × (Self.WIDTH ≡ kind.width) × (Self.rows ≡ kind.readable) };
 
-    fn read(from: &[u8]) -> Option<Self>
-        ensures { Reads kind.readable bytes from.now result };
-
-    ghost readable: { (v : Self) → kind.readable (bytes v) ≡ true };
-
-    // Values with the same bytes are the same value.
-    ghost one: { (a b : Self) → bytes a ≡ bytes b → a ≡ b };
+    ghost readable: { (v : Self) → kind.readable (Self.bytes v) ≡ true };
 }

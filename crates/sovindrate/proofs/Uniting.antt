@@ -1,11 +1,10 @@
 -- One setting more, found place by place. Assumes nothing.
-use Rattle.std.proofs.Common.{◌≡◌, ℕ, ◌+◌, ◌<◌, ◌≤◌, Bool, true, false, List, [], ◌∷◌, ◌++◌, map, length, get_or, take, drop, set, sym, refl, ap, ◌∙◌, subst, add-one, arith, length-append, length-drop, length-take}
+use Rattle.std.proofs.Common.{◌≡◌, ℕ, ◌+◌, ◌<◌, ◌≤◌, Bool, true, false, List, [], ◌∷◌, ◌++◌, Ok, Err, map, length, get_or, take, drop, set, sym, refl, ap, ◌∙◌, subst, add-one, arith, length-append, length-drop, length-take}
 use Rattle.std.specs.List.{insert}
 use Rattle.std.proofs.lemmas.List.{at_drop_more, at_drop_all, append_assoc, take_more, take_all, drop_all, drop_more, set_split, get_or-map, map-set, map-append, take-map, drop-map, length-map}
 use Rattle.std.proofs.lemmas.Bool.{cond-true, cond-false, both_ways}
 use Rattle.kinds.specs.Kinds.{KeyKind, ValueKind}
 use Rattle.sovindrate.specs.declared.sheet.Setting.{Setting}
-use Rattle.sovindrate.specs.declared.sheet.Spot.TheVariants.{Same, Before}
 use Rattle.sovindrate.specs.Sheets.{Pair, Stands, pair, meaning, united}
 
 abbrev blank : Pair
@@ -73,13 +72,13 @@ module _ {X Y : Type 0} (kb : X → List ℕ) (vb : Y → List ℕ) where
     pub found_lower : K.before (kb s.key) k ≡ true → Passed K V k (meaning kb vb xs) (i + 1)
     found_lower b = past K V k (meaning kb vb xs) i within passed (ap (λ (p : Pair). K.before p.key k) is ∙ b)
 
-    pub found_same : kb s.key ≡ k → Stands K V k (meaning kb vb xs) (Same i)
+    pub found_same : kb s.key ≡ k → Stands K V k (meaning kb vb xs) (Ok i)
     found_same e = (within, same_here K V k (meaning kb vb xs) i within passed (ap (λ (p : Pair). p.key) is ∙ e))
 
-    pub found_higher : K.before k (kb s.key) ≡ true → Stands K V k (meaning kb vb xs) (Before i)
+    pub found_higher : K.before k (kb s.key) ≡ true → Stands K V k (meaning kb vb xs) (Err i)
     found_higher b = (omega (arith, within), before_here K V k (meaning kb vb xs) i within passed (ap (λ (p : Pair). K.before k p.key) is ∙ b))
 
-  pub found_none : (K : KeyKind) (V : ValueKind) (k : List ℕ) (xs : List (Setting X Y)) (i : ℕ) → length xs ≤ i → Passed K V k (meaning kb vb xs) i → Stands K V k (meaning kb vb xs) (Before (length xs))
+  pub found_none : (K : KeyKind) (V : ValueKind) (k : List ℕ) (xs : List (Setting X Y)) (i : ℕ) → length xs ≤ i → Passed K V k (meaning kb vb xs) i → Stands K V k (meaning kb vb xs) (Err (length xs))
   found_none K V k xs i h passed =
       let long : length (meaning kb vb xs) ≡ length xs = length-map xs f in
       let end = at_end K V k (meaning kb vb xs) i (omega (arith, long)) passed in
@@ -88,22 +87,22 @@ module _ {X Y : Type 0} (kb : X → List ℕ) (vb : Y → List ℕ) where
   -- ---- the edit, where the slice ys of the sheet xs was searched
 
   module _ (K : KeyKind) (V : ValueKind) (k : X) (v : Y) (xs ys : List (Setting X Y)) (i : ℕ) (whole : ys ≡ xs) where
-    pub same_within : Stands K V (kb k) (meaning kb vb ys) (Same i) → i < length xs
+    pub same_within : Stands K V (kb k) (meaning kb vb ys) (Ok i) → i < length xs
     same_within st = let e : length (meaning kb vb ys) ≡ length xs = ap (λ l. length (meaning kb vb l)) whole ∙ length-map xs f in omega (arith, st.0, e)
 
-    pub before_within : Stands K V (kb k) (meaning kb vb ys) (Before i) → i ≤ length xs
+    pub before_within : Stands K V (kb k) (meaning kb vb ys) (Err i) → i ≤ length xs
     before_within st = let e : length (meaning kb vb ys) ≡ length xs = ap (λ l. length (meaning kb vb l)) whole ∙ length-map xs f in omega (arith, st.0, e)
 
-    pub set_united : (s : Setting X Y) (w : Y) → s ≡ get_or xs i s → vb w ≡ V.join (vb s.value) (vb v) → Stands K V (kb k) (meaning kb vb ys) (Same i) →
+    pub set_united : (s : Setting X Y) (w : Y) → s ≡ get_or xs i s → vb w ≡ V.join (vb s.value) (vb v) → Stands K V (kb k) (meaning kb vb ys) (Ok i) →
         meaning kb vb (set xs i (record { key = k; value = w })) ≡ united K V (kb k) (vb v) (meaning kb vb xs)
     set_united s w read joined st =
-        let there = subst (λ l. Stands K V (kb k) (meaning kb vb l) (Same i)) whole st in
+        let there = subst (λ l. Stands K V (kb k) (meaning kb vb l) (Ok i)) whole st in
         let is : get_or (meaning kb vb xs) i blank ≡ f s = get_or-map f xs i s blank (same_within st) ∙ sym (ap f read) in
         let old : V.join (vb s.value) (vb v) ≡ V.join (get_or (meaning kb vb xs) i blank).value (vb v) = ap (λ (p : Pair). V.join p.value (vb v)) (sym is) in
         map-set f xs i (record { key = k; value = w }) ∙ ap (λ x. set (meaning kb vb xs) i (pair (kb k) x)) (joined ∙ old) ∙ sym (there.1 (vb v))
 
-    pub insert_united : (zs : List (Setting X Y)) → zs ≡ insert xs i (record { key = k; value = v }) → Stands K V (kb k) (meaning kb vb ys) (Before i) →
+    pub insert_united : (zs : List (Setting X Y)) → zs ≡ insert xs i (record { key = k; value = v }) → Stands K V (kb k) (meaning kb vb ys) (Err i) →
         (meaning kb vb zs ≡ united K V (kb k) (vb v) (meaning kb vb xs)) × (length zs ≡ length xs + 1)
     insert_united zs e st =
-        let there = subst (λ l. Stands K V (kb k) (meaning kb vb l) (Before i)) whole st in
+        let there = subst (λ l. Stands K V (kb k) (meaning kb vb l) (Err i)) whole st in
         (ap (meaning kb vb) e ∙ meaning_inserted xs i (record { key = k; value = v }) ∙ sym (there.1 (vb v)), ap length e ∙ length_inserted xs i _ (before_within st))

@@ -14,33 +14,17 @@ pub enum Line<'a> {
     Other,
 }
 
-fn said(word: Option<&str>) -> Option<&str> {
-    match word {
-        Some(w) => { if w.starts_with('#') { None } else { Some(w) } }
-        None => None,
-    }
-}
-
 pub fn line_of(text: &str) -> Line<'_> {
-    let mut words = text.split_whitespace();
-    let Some(first) = said(words.next()) else {
-        return Line::Blank;
-    };
-    let Some(second) = said(words.next()) else {
-        return Line::Other;
-    };
-    let Some(third) = said(words.next()) else {
-        return Line::Setting {
-            key: first,
-            value: second,
-        };
-    };
-    if first == "sheet" && said(words.next()).is_none() {
-        Line::Sheet {
-            key_kind: second,
-            value_kind: third,
-        }
-    } else {
-        Line::Other
+    let mut words = text
+        .split_whitespace()
+        .take_while(|word| !word.starts_with('#'));
+    match (words.next(), words.next(), words.next(), words.next()) {
+        (None, _, _, _) => Line::Blank,
+        (Some(key), Some(value), None, _) => Line::Setting { key, value },
+        (Some("sheet"), Some(key_kind), Some(value_kind), None) => Line::Sheet {
+            key_kind,
+            value_kind,
+        },
+        _ => Line::Other,
     }
 }

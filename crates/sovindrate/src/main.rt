@@ -2,7 +2,6 @@
 #![tactic(auto)]
 
 mod fault;
-mod hex;
 mod lines;
 mod report;
 mod sheet;

@@ -1,7 +1,8 @@
 // How keys and values are written on a sheet.
-use super::fault::Fault;
 use keys::{Bobbin, Id, Path};
 use kinds::Refusal;
+use std::alloc::AllocError;
+use std::str::FromStr;
 use values::{Flags, Limit, Register};
 
 // Why a word is no key or value: its kind refuses it, or it is not written as its kind is.
@@ -11,36 +12,40 @@ pub enum Misspelt {
     Malformed,
 }
 
+impl From<Refusal> for Misspelt {
+    fn from(refusal: Refusal) -> Misspelt {
+        Misspelt::Refused(refusal)
+    }
+}
+
 pub trait Spelled: Copy {
     // What a word of this kind looks like.
-    fn expected() -> &'static str;
+    const EXPECTED: &'static str;
 
     fn parse(word: &str) -> Result<Self, Misspelt>;
 
-    fn spell(&self, out: &mut String) -> Result<(), Fault>;
+    fn spell(&self, out: &mut String) -> Result<(), AllocError>;
 }
 
-// Decimal digits and nothing else.
-fn decimal(word: &str) -> Option<u32> {
+// A number that is written with no +.
+fn number<N: FromStr>(word: &str) -> Result<N, Misspelt>
+where
+    N::Err: Drop,
+{
     if word.starts_with('+') {
-        return None;
+        return Err(Misspelt::Malformed);
     }
-    word.parse::<u32>().ok()
+    word.parse::<N>().map_err(|_| Misspelt::Malformed)
 }
 
 impl Spelled for Path {
-    fn expected() -> &'static str {
-        "a path"
-    }
+    const EXPECTED: &'static str = "a path";
 
     fn parse(word: &str) -> Result<Self, Misspelt> {
-        match Path::new(word.as_bytes()) {
-            Ok(path) => Ok(path),
-            Err(refusal) => Err(Misspelt::Refused(refusal)),
-        }
+        Ok(Path::new(word.as_bytes())?)
     }
 
-    fn spell(&self, out: &mut String) -> Result<(), Fault> {
+    fn spell(&self, out: &mut String) -> Result<(), AllocError> {
         for b in self.text() {
             out.push(char::from(*b))?;
         }
@@ -49,69 +54,52 @@ impl Spelled for Path {
 }
 
 impl Spelled for Id {
-    fn expected() -> &'static str {
-        "an id, a number below 4294967296"
-    }
+    const EXPECTED: &'static str = "an id, a number below 4294967296";
 
     fn parse(word: &str) -> Result<Self, Misspelt> {
-        match decimal(word) {
-            Some(number) => Ok(Id { number }),
-            None => Err(Misspelt::Malformed),
-        }
+        Ok(Id {
+            number: number(word)?,
+        })
     }
 
-    fn spell(&self, out: &mut String) -> Result<(), Fault> {
+    fn spell(&self, out: &mut String) -> Result<(), AllocError> {
         let number = self.number;
-        write!(out, "{number}")?;
-        Ok(())
+        write!(out, "{number}")
     }
 }
 
 impl Spelled for Bobbin {
-    fn expected() -> &'static str {
-        "a bobbin, a number below 256"
-    }
+    const EXPECTED: &'static str = "a bobbin, a number below 256";
 
     fn parse(word: &str) -> Result<Self, Misspelt> {
-        match decimal(word) {
-            Some(number) => match u8::try_from(number) {
-                Ok(number) => Ok(Bobbin { number }),
-                Err(_) => Err(Misspelt::Malformed),
-            },
-            None => Err(Misspelt::Malformed),
-        }
+        Ok(Bobbin {
+            number: number(word)?,
+        })
     }
 
-    fn spell(&self, out: &mut String) -> Result<(), Fault> {
+    fn spell(&self, out: &mut String) -> Result<(), AllocError> {
         let number = self.number;
-        write!(out, "{number}")?;
-        Ok(())
+        write!(out, "{number}")
     }
 }
 
 impl Spelled for Limit {
-    fn expected() -> &'static str {
-        "a limit, a number below 4294967296"
-    }
+    const EXPECTED: &'static str = "a limit, a number below 4294967296";
 
     fn parse(word: &str) -> Result<Self, Misspelt> {
-        match decimal(word) {
-            Some(number) => Ok(Limit { number }),
-            None => Err(Misspelt::Malformed),
-        }
+        Ok(Limit {
+            number: number(word)?,
+        })
     }
 
-    fn spell(&self, out: &mut String) -> Result<(), Fault> {
+    fn spell(&self, out: &mut String) -> Result<(), AllocError> {
         let number = self.number;
-        write!(out, "{number}")?;
-        Ok(())
+        write!(out, "{number}")
     }
 }
 
 impl Spelled for Flags {
-    fn expected() -> &'static str {
-        "flags, up to 8 hexadecimal digits"
-    }
+    const EXPECTED: &'static str = "flags, up to 8 hexadecimal digits";
 
     fn parse(word: &str) -> Result<Self, Misspelt> {
         if word.starts_with('+') || word.len() > 8 {
@@ -123,38 +111,27 @@ impl Spelled for Flags {
         }
     }
 
-    fn spell(&self, out: &mut String) -> Result<(), Fault> {
+    fn spell(&self, out: &mut String) -> Result<(), AllocError> {
         let set = self.set;
-        write!(out, "{set:08X}")?;
-        Ok(())
+        write!(out, "{set:08X}")
     }
 }
 
 impl Spelled for Register {
-    fn expected() -> &'static str {
-        "a register, STAMP,OFFSET with a stamp below 4294967296 and an offset from -32768 to 32767"
-    }
+    const EXPECTED: &'static str =
+        "a register, STAMP,OFFSET with a stamp below 4294967296 and an offset from -32768 to 32767";
 
     fn parse(word: &str) -> Result<Self, Misspelt> {
-        let Some((stamp, offset)) = word.split_once(',') else {
-            return Err(Misspelt::Malformed);
-        };
-        let Some(stamp) = decimal(stamp) else {
-            return Err(Misspelt::Malformed);
-        };
-        if offset.starts_with('+') {
-            return Err(Misspelt::Malformed);
-        }
-        match offset.parse::<i16>() {
-            Ok(offset) => Ok(Register { stamp, offset }),
-            Err(_) => Err(Misspelt::Malformed),
-        }
+        let (stamp, offset) = word.split_once(',').ok_or(Misspelt::Malformed)?;
+        Ok(Register {
+            stamp: number(stamp)?,
+            offset: number(offset)?,
+        })
     }
 
-    fn spell(&self, out: &mut String) -> Result<(), Fault> {
+    fn spell(&self, out: &mut String) -> Result<(), AllocError> {
         let stamp = self.stamp;
         let offset = self.offset;
-        write!(out, "{stamp},{offset}")?;
-        Ok(())
+        write!(out, "{stamp},{offset}")
     }
 }

@@ -2,22 +2,23 @@
 ghost use Rattle.std.specs.Prelude.{◌≡◌, ◌+◌, length, if◌then◌else◌, MatchResult};
 ghost use Rattle.sovindrate.specs.Sheets.{Stands, meaning, united};
 
-use super::sheet::{Setting, Spot};
+use super::sheet::Setting;
 use kinds::{Key, Value};
 use std::alloc::AllocError;
 use std::cmp::Ordering;
 
-fn find<K: Key, V: Value>(settings: &[Setting<K, V>], key: &K) -> Spot
-    ensures { Stands K.Key.kind V.Value.kind (K.Key.bytes key.now) (meaning K.Key.bytes V.Value.bytes settings.now) result }
+// Where a key stands: `Ok` at the setting that has it, `Err` before the setting that comes after it, or at the end.
+fn find<K: Key, V: Value>(settings: &[Setting<K, V>], key: &K) -> Result<usize, usize>
+    ensures { Stands K.kind V.kind (K.bytes key.now) (meaning K.bytes V.bytes settings.now) result }
 {
     for (i, setting) in settings.iter().enumerate() {
         match setting.key.order(key) {
             Ordering::Less => {}
-            Ordering::Equal => return Spot::Same(i),
-            Ordering::Greater => return Spot::Before(i),
+            Ordering::Equal => return Ok(i),
+            Ordering::Greater => return Err(i),
         }
     }
-    Spot::Before(settings.len())
+    Err(settings.len())
 }
 
 // Unites a setting with a sheet, and says whether its key was there already: the sheet is then no longer than it was.
@@ -27,16 +28,16 @@ pub fn unite<K: Key, V: Value>(
     key: K,
     value: V,
 ) -> Result<bool, AllocError>
-    ensures { MatchResult result (λ there. (meaning K.Key.bytes V.Value.bytes settings.new.items ≡ united K.Key.kind V.Value.kind (K.Key.bytes key) (V.Value.bytes value) (meaning K.Key.bytes V.Value.bytes settings.old.items)) × (length settings.new.items ≡ length settings.old.items + (if there then 0 else 1))) (λ _. settings.new.items ≡ settings.old.items) }
+    ensures { MatchResult result (λ there. (meaning K.bytes V.bytes settings.new.items ≡ united K.kind V.kind (K.bytes key) (V.bytes value) (meaning K.bytes V.bytes settings.old.items)) × (length settings.new.items ≡ length settings.old.items + (if there then 0 else 1))) (λ _. settings.new.items ≡ settings.old.items) }
 {
     match find(settings.as_slice(), &key) {
-        Spot::Same(i) => {
+        Ok(i) => {
             let old = settings[i];
             let joined = old.value.join(&value);
             settings[i] = Setting { key, value: joined };
             Ok(true)
         }
-        Spot::Before(i) => {
+        Err(i) => {
             settings.insert(i, Setting { key, value })?;
             Ok(false)
         }

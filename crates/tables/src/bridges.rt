@@ -7,16 +7,16 @@ use kinds::{Key, Value};
 
 // A held version stays as it is through takes, holds and releases of others; what is held is what an owner reaches; the free cells are the rest.
 pub fn tables_stand<K: Key, V: Value>()
-    ensures released { VersionsOutliveOthers K.Key.kind K.Key.bytes V.Value.bytes }
-    ensures held { VersionsOutliveHolds K.Key.kind K.Key.bytes V.Value.bytes }
-    ensures entry_held { VersionsOutliveEntryHolds K.Key.kind K.Key.bytes V.Value.bytes }
-    ensures made { NewNodesMeanTheirNotes K.Key.kind K.Key.bytes V.Value.bytes }
-    ensures entry_made { NewEntriesMeanTheirNotes K.Key.kind K.Key.bytes V.Value.bytes }
+    ensures released { VersionsOutliveOthers K.kind K.bytes V.bytes }
+    ensures held { VersionsOutliveHolds K.kind K.bytes V.bytes }
+    ensures entry_held { VersionsOutliveEntryHolds K.kind K.bytes V.bytes }
+    ensures made { NewNodesMeanTheirNotes K.kind K.bytes V.bytes }
+    ensures entry_made { NewEntriesMeanTheirNotes K.kind K.bytes V.bytes }
     ensures entries_left { HoldsLeaveEntries K V }
     ensures entries_taken { NewNodesTakeOverEntries K V }
-    ensures owned { HeldNodesAreOwned K.Key.kind K.Key.bytes V.Value.bytes }
-    ensures entry_owned { HeldEntriesAreOwned K.Key.kind K.Key.bytes V.Value.bytes }
-    ensures free { FreeCellsAreTheRest K.Key.kind K.Key.bytes V.Value.bytes }
-    ensures digits { DigitsSayWhatIsBelow K.Key.kind }
-    ensures ranks { RanksFollowTheKeys K.Key.kind }
+    ensures owned { HeldNodesAreOwned K.kind K.bytes V.bytes }
+    ensures entry_owned { HeldEntriesAreOwned K.kind K.bytes V.bytes }
+    ensures free { FreeCellsAreTheRest K.kind K.bytes V.bytes }
+    ensures digits { DigitsSayWhatIsBelow K.kind }
+    ensures ranks { RanksFollowTheKeys K.kind }
 {}

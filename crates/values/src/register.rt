@@ -1,5 +1,5 @@
 // Registers: a stamp and a bar offset, of two the one with the larger stamp, at equal stamps the larger offset.
-ghost use Rattle.std.specs.Prelude.{◌≡◌, ℕ, ◌<◌, ◌^◌};
+ghost use Rattle.std.specs.Prelude.{◌≡◌, refl, ℕ, ◌<◌, ◌^◌};
 ghost use Rattle.std.specs.Int.Signed.{mag};
 ghost use Rattle.byte_rows.specs.Joins.{stamped};
 ghost use Rattle.values.specs.Values.{register_kind};
@@ -8,9 +8,9 @@ ghost use Rattle.byte_rows.proofs.Ones.{one_made};
 ghost use Rattle.byte_rows.proofs.Stamps.{stamps_one, offsets_one};
 ghost use Rattle.std.proofs.Common.{rules};
 
-use kinds::Value;
+use kinds::{Coded, Value};
 
-#[derive(Clone, Copy)]
+#[derive(Clone, Copy, Debug, PartialEq, Eq, PartialOrd, Ord)]
 pub struct Register {
     pub stamp: u32,
     pub offset: i16,
@@ -18,46 +18,20 @@ pub struct Register {
     ghost offset_fits: { mag offset < 2 ^ 15 },
 }
 
-impl Value for Register {
+impl Coded for Register {
     const CODE: u8 = 3;
 
     const WIDTH: usize = 6;
 
-    ghost kind = { register_kind };
+    ghost CODE = { register_kind.code };
+
+    ghost WIDTH = { register_kind.width };
+
+    ghost rows = { register_kind.readable };
 
     ghost bytes = { λ v. stamped v.stamp v.offset };
 
-    ghost readable = { Prim.search rules };
-
     ghost one = { λ a b e. one_made (λ n. n) (λ s p. record { stamp = s; offset = a.offset; stamp_fits = p; offset_fits = a.offset_fits }) a.stamp b.stamp a.stamp_fits b.stamp_fits (stamps_one a.stamp b.stamp a.offset b.offset a.stamp_fits b.stamp_fits e) ∙ one_made mag (λ o q. record { stamp = b.stamp; offset = o; stamp_fits = b.stamp_fits; offset_fits = q }) a.offset b.offset a.offset_fits b.offset_fits (offsets_one a.stamp b.stamp a.offset b.offset a.offset_fits b.offset_fits e) };
-
-    fn code_byte() -> u8 {
-        Self::CODE
-    }
-
-    fn byte_width() -> usize {
-        Self::WIDTH
-    }
-
-    fn same(&self, other: &Self) -> bool {
-        let stamp = self.stamp;
-        let offset = self.offset;
-        let other_stamp = other.stamp;
-        let other_offset = other.offset;
-        stamp == other_stamp && offset == other_offset
-    }
-
-    fn join(&self, other: &Self) -> Self {
-        let stamp = self.stamp;
-        let offset = self.offset;
-        let other_stamp = other.stamp;
-        let other_offset = other.offset;
-        if stamp < other_stamp || (stamp == other_stamp && offset < other_offset) {
-            *other
-        } else {
-            *self
-        }
-    }
 
     fn write(&self, out: &mut [u8]) {
         let [a, b, c, d] = self.stamp.to_be_bytes();
@@ -66,9 +40,22 @@ impl Value for Register {
     }
 
     fn read(from: &[u8]) -> Option<Self> {
-        match byte_rows::read_stamped(from) {
-            Some((stamp, offset)) => Some(Register { stamp, offset }),
-            None => None,
-        }
+        byte_rows::read_stamped(from).map(|(stamp, offset)| Register { stamp, offset })
+    }
+}
+
+impl Value for Register {
+    ghost kind = { register_kind };
+
+    ghost coded = { (refl, refl, refl) };
+
+    ghost readable = { Prim.search rules };
+
+    fn same(&self, other: &Self) -> bool {
+        self == other
+    }
+
+    fn join(&self, other: &Self) -> Self {
+        (*self).max(*other)
     }
 }

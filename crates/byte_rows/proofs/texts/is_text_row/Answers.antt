@@ -1,5 +1,4 @@
 use Rattle.std.proofs.Common.{◌≡◌, ℕ, ◌&&◌, eqb, List, length, take, drop, replicate, Decides, ap, ◌∙◌, subst}
-use native.Mathlib.Nat.{sub-zero}
 use Rattle.std.proofs.lemmas.List.{take_rest}
 use Rattle.std.proofs.lemmas.Bool.{and_parts, eqb-true}
 use Rattle.byte_rows.specs.Texts.{text_of}
@@ -12,7 +11,7 @@ returns c =
     let w : ℕ = c.args.width in
     let n : ℕ = c.text_length-length.result in
     let z = c.all_zero-filling.result in
-    let text : c.is_text-text.result ≡ text_of w (take n row) = c.is_text-text.ensures ∙ ap (λ k. text_of w (take k row)) (sub-zero n) in
+    let text : c.is_text-text.result ≡ text_of w (take n row) = c.is_text-text.ensures in
     let zeros : Decides z (drop n row ≡ replicate (length (drop n row)) 0) = subst (λ l. Decides z (l ≡ replicate (length l) 0)) (take_rest row n) c.all_zero-filling.ensures in
     record {
       test = ap (λ t. (t && eqb (length row) w) && z) text ∙ text_row_is w n row z c.text_length-length.ensures.within c.text_length-length.ensures.text zeros;

@@ -8,8 +8,8 @@ use Rattle.tables.proofs.bridges.tables_stand.Goals as goal
 pub returns : goal.returns
 returns g c =
     let K = g.K.Key.kind in
-    let kb = g.K.Key.bytes in
-    let vb = g.V.Value.bytes in
+    let kb = g.K.Coded.bytes in
+    let vb = g.V.Coded.bytes in
     record {
       released = λ cs f s es ef eu ds h t fs eg et note entry-note r R E gone H G L M. (
         released_means K kb vb r cs f s es ef eu ds h t fs eg et note entry-note gone M,
