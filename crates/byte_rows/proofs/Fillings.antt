@@ -1,5 +1,5 @@
 -- Texts and their filling. Assumes nothing.
-use Rattle.std.proofs.Common.{◌≡◌, ℕ, zero, suc, ◌+◌, ◌-◌, ◌^◌, ◌<◌, ◌≤◌, Bool, true, false, not, cond, ◌&&◌, eqb, leb, ltb, List, [], ◌∷◌, ◌++◌, length, take, drop, replicate, Decides, Some, None, fold, sym, refl, ap, ◌∙◌, ap₂, arith, length-append}
+use Rattle.std.proofs.Common.{◌≡◌, ℕ, zero, suc, ◌+◌, ◌-◌, ◌^◌, ◌<◌, ◌≤◌, Bool, true, false, not, cond, ◌&&◌, eqb, leb, ltb, List, [], ◌∷◌, ◌++◌, length, get_or, take, drop, replicate, Decides, Some, None, fold, sym, refl, ap, ◌∙◌, ap₂, arith, length-append}
 use Rattle.std.specs.List.{position, position_or_len}
 use Rattle.std.specs.Option.{unwrap_or}
 use Rattle.std.proofs.Math.Numerals.{one-add}
@@ -7,6 +7,8 @@ use lib.ListN.{length-replicate}
 use Rattle.std.proofs.lemmas.List.{take_all, take-append-drop, drop_at, length-drop, length-take-le, drop-replicate}
 use Rattle.std.proofs.lemmas.Bool.{and_parts, and_from, eqb-true, eq-eqb, lt-ltb, leb-true, le-leb, cond-true, cond-false, ne_eqb}
 use Rattle.std.proofs.lemmas.Bool.Decides.{nat_tests, same_from_decides}
+use Rattle.std.specs.Str.{IsUtf8}
+use Rattle.std.proofs.lemmas.Str.{IsUtf8-from_ascii}
 use Rattle.byte_rows.specs.Rows.{byte_row, written}
 use Rattle.byte_rows.specs.Texts.{printable, is_all_printable, text_of, filled, unfilled, text_row, fnv_step, fnv}
 use Rattle.byte_rows.proofs.Orders.{same_decides}
@@ -138,3 +140,13 @@ text_row_is w n bs z within text zeros = same_from_decides _ _ (there, back) (te
         let size : length (drop n bs) ≡ w - length (unfilled bs) = ap length rest ∙ length-replicate {A = ℕ} _ 0 in
         and_from _ _ (and_from _ _ (ap (text_of w) text ∙ h.0) (eq-eqb _ _ (ap length h.1 ∙ length_filled w _ parts.fits)))
         (zeros.1 (rest ∙ ap (λ m. replicate m 0) (sym size)))
+
+-- ---- what a text prints
+
+printable_ascii : (t : List ℕ) → is_all_printable t ≡ true → (i : ℕ) → get_or t i 0 < 128
+printable_ascii [] h i = omega arith
+printable_ascii (b ∷ t) h zero = let high = leb-true b 0x7E (and_parts (leb 0x21 b) _ (and_parts (printable b) _ h).0).1 in omega arith
+printable_ascii (b ∷ t) h (suc i) = printable_ascii t (and_parts (printable b) _ h).1 i
+
+pub text_is_utf8 : (w : ℕ) (bs : List ℕ) → text_row w bs ≡ true → IsUtf8 (unfilled bs)
+text_is_utf8 w bs h = IsUtf8-from_ascii (unfilled bs) (printable_ascii (unfilled bs) (row_parts w bs h).0.prints)

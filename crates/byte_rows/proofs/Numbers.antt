@@ -102,10 +102,6 @@ read_bytes w l n e h is =
     let row : row_of w l ≡ true = and_from _ _ (eq-eqb _ _ e) h in
     (row, ap (in_bytes w) is ∙ row_number w l row)
 
--- the same of a slice
-pub read_row : (w : ℕ) (l : List ℕ) (n : ℕ) → length l ≡ w → ((i : ℕ) → Fits w8 (get_or l i 0)) → n ≡ number l → (row_of w l ≡ true) × (in_bytes w n ≡ l)
-read_row w l n e f is = read_bytes w l n e (slice_bytes l f) is
-
 -- the numbers of one, two and four bytes
 pub number_1 : (l : List ℕ) → length l ≡ 1 → number l ≡ get_or l 0 0
 number_1 [] e = absurd (omega arith)
@@ -120,12 +116,6 @@ pub number_4 : (l : List ℕ) → length l ≡ 4 → number l ≡ get_or l 0 0 *
 number_4 [] e = absurd (omega arith)
 number_4 (a ∷ []) e = absurd (omega arith)
 number_4 (a ∷ b ∷ l) e = let n : length l ≡ 2 = omega arith in rw n (omega (arith, number_2 l n))
-
--- a slice of one byte
-pub read_byte : (l : List ℕ) → length l ≡ 1 → get_or l 0 0 < 256 → (row_of 1 l ≡ true) × (in_bytes 1 (get_or l 0 0) ≡ l)
-read_byte [] e h = absurd (omega arith)
-read_byte (b ∷ []) e h = read_bytes 1 (b ∷ []) b refl (and_from _ _ (lt-ltb b 256 h) refl) (omega arith)
-read_byte (b ∷ c ∷ l) e h = absurd (omega arith)
 
 -- ---- the order of numbers
 

@@ -6,6 +6,7 @@ use Rattle.std.proofs.lemmas.Bool.{and_from, eq-eqb}
 use Rattle.byte_rows.specs.Rows.{row_of, in_bytes}
 use Rattle.byte_rows.proofs.Numbers.{in_bytes_one, slice_bytes, read_bytes, byte_row_take, byte_row_drop, number_2, number_4}
 use Rattle.byte_rows.specs.Joins.{stamped}
+use Rattle.byte_rows.proofs.Ones.{one_made}
 
 bits_fit : (z : ℤ) → mag z < 2 ^ 15 → of_z w16 z < 256 ^ 2
 bits_fit (pos n) h = omega arith
@@ -14,13 +15,19 @@ bits_fit (negsuc n) h = omega arith
 back : (z : ℤ) → mag z < 2 ^ 15 → to_z w16 (of_z w16 z) ≡ z
 back z h = to_z-of_z w16 z (record { sfits = h })
 
-pub stamps_one : (s t : ℕ) (x y : ℤ) → s < 2 ^ 32 → t < 2 ^ 32 → stamped s x ≡ stamped t y → s ≡ t
+stamps_one : (s t : ℕ) (x y : ℤ) → s < 2 ^ 32 → t < 2 ^ 32 → stamped s x ≡ stamped t y → s ≡ t
 stamps_one s t x y hs ht e = in_bytes_one 4 s t hs ht (ap (take 4) e)
 
-pub offsets_one : (s t : ℕ) (x y : ℤ) → mag x < 2 ^ 15 → mag y < 2 ^ 15 → stamped s x ≡ stamped t y → x ≡ y
+offsets_one : (s t : ℕ) (x y : ℤ) → mag x < 2 ^ 15 → mag y < 2 ^ 15 → stamped s x ≡ stamped t y → x ≡ y
 offsets_one s t x y hx hy e =
     let bits : of_z w16 x ≡ of_z w16 y = in_bytes_one 2 (of_z w16 x) (of_z w16 y) (bits_fit x hx) (bits_fit y hy) (ap (drop 4) e) in
     sym (back x hx) ∙ ap (to_z w16) bits ∙ back y hy
+
+-- what is made of a stamp and an offset is one where their bytes are
+pub stamped_made : {X : Type 0} (make : (s : ℕ) (o : ℤ) → s < 2 ^ 32 → mag o < 2 ^ 15 → X) (s t : ℕ) (x y : ℤ) (hs : s < 2 ^ 32) (ht : t < 2 ^ 32) (hx : mag x < 2 ^ 15) (hy : mag y < 2 ^ 15) →
+    stamped s x ≡ stamped t y → make s x hs hx ≡ make t y ht hy
+stamped_made make s t x y hs ht hx hy e =
+    one_made (λ n. n) (λ n h. make n x h hx) s t hs ht (stamps_one s t x y hs ht e) ∙ one_made mag (λ o h. make t o ht h) x y hx hy (offsets_one s t x y hx hy e)
 
 -- six bytes that were read as a stamp and an offset
 pub reads_stamped : (l : List ℕ) (s : ℕ) (z : ℤ) → length l ≡ 6 → ((i : ℕ) → Fits w8 (get_or l i 0)) → mag z < 2 ^ 15 →

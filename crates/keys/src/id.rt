@@ -1,17 +1,28 @@
 // Ids: any number of 32 bits.
-ghost use Rattle.std.specs.Prelude.{◌≡◌, refl, ℕ, ◌^◌, ◌<◌};
+ghost use Rattle.std.specs.Prelude.{◌≡◌, refl, ℕ, ◌^◌, ◌<◌, Some};
 ghost use Rattle.byte_rows.specs.Rows.{in_bytes};
 ghost use Rattle.keys.specs.Keys.{id_kind};
 ghost use Rattle.byte_rows.proofs.Ones.{number_made};
 ghost use Rattle.std.proofs.Common.{rules};
+ghost use Rattle.std.specs.Fmt.{decimal};
 
 use kinds::{Coded, Key};
 use std::cmp::Ordering;
+use std::fmt;
 
 #[derive(Clone, Copy, Debug, PartialEq, Eq, PartialOrd, Ord)]
 pub struct Id {
     pub number: u32,
     ghost fits: { number < 2 ^ 32 },
+}
+
+impl fmt::Display for Id {
+    ghost output = { λ k. Some (decimal k.number) };
+
+    fn fmt<W: fmt::Write>(&self, f: &mut fmt::Formatter<W>) -> fmt::Result {
+        let number = self.number;
+        write!(f, "{number}")
+    }
 }
 
 impl Coded for Id {

@@ -1,5 +1,5 @@
 // Paths: names of 1 to 24 printable bytes.
-ghost use Rattle.std.specs.Prelude.{◌≡◌, refl, true};
+ghost use Rattle.std.specs.Prelude.{◌≡◌, refl, true, Some};
 ghost use Rattle.byte_rows.specs.Texts.{text_row, unfilled};
 ghost use Rattle.keys.specs.Keys.{path_kind};
 ghost use Rattle.keys.specs.Making.{Makes};
@@ -8,6 +8,7 @@ ghost use Rattle.std.proofs.Common.{rules};
 
 use kinds::{Coded, Key, Refusal};
 use std::cmp::Ordering;
+use std::fmt;
 
 // The text of the path, filled with 00.
 #[derive(Clone, Copy, Debug, PartialEq, Eq, PartialOrd, Ord)]
@@ -34,6 +35,14 @@ impl Path {
         ensures { result.now ≡ unfilled self.now.filled }
     {
         byte_rows::text(&self.filled)
+    }
+}
+
+impl fmt::Display for Path {
+    ghost output = { λ k. Some (unfilled k.filled) };
+
+    fn fmt<W: fmt::Write>(&self, f: &mut fmt::Formatter<W>) -> fmt::Result {
+        f.write_str(str::from_utf8(self.text()).unwrap())
     }
 }
 

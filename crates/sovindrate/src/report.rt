@@ -98,15 +98,12 @@ impl Account {
     ) -> Result<(), Fault> {
         let key = setting.key;
         let value = setting.value;
-        key.spell(&mut self.out)?;
-        self.out.push(' ')?;
-        value.spell(&mut self.out)?;
         let hash = key.hash();
-        write!(self.out, " hash {hash:08X} key ")?;
+        write!(self.out, "{key} {value} hash {hash:08X} key ")?;
         self.write_bytes(&key)?;
-        self.out.push_str(" value ")?;
+        write!(self.out, " value ")?;
         self.write_bytes(&value)?;
-        self.out.push('\n')?;
+        writeln!(self.out)?;
         Ok(())
     }
 

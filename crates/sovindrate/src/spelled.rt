@@ -1,7 +1,7 @@
-// How keys and values are written on a sheet.
+// How keys and values are read from a sheet.
 use keys::{Bobbin, Id, Path};
 use kinds::Refusal;
-use std::alloc::AllocError;
+use std::fmt::Display;
 use std::str::FromStr;
 use values::{Flags, Limit, Register};
 
@@ -18,13 +18,11 @@ impl From<Refusal> for Misspelt {
     }
 }
 
-pub trait Spelled: Copy {
+pub trait Spelled: Copy + Display {
     // What a word of this kind looks like.
     const EXPECTED: &'static str;
 
     fn parse(word: &str) -> Result<Self, Misspelt>;
-
-    fn spell(&self, out: &mut String) -> Result<(), AllocError>;
 }
 
 // A number that is written with no +.
@@ -44,13 +42,6 @@ impl Spelled for Path {
     fn parse(word: &str) -> Result<Self, Misspelt> {
         Ok(Path::new(word.as_bytes())?)
     }
-
-    fn spell(&self, out: &mut String) -> Result<(), AllocError> {
-        for b in self.text() {
-            out.push(char::from(*b))?;
-        }
-        Ok(())
-    }
 }
 
 impl Spelled for Id {
@@ -60,11 +51,6 @@ impl Spelled for Id {
         Ok(Id {
             number: number(word)?,
         })
-    }
-
-    fn spell(&self, out: &mut String) -> Result<(), AllocError> {
-        let number = self.number;
-        write!(out, "{number}")
     }
 }
 
@@ -76,11 +62,6 @@ impl Spelled for Bobbin {
             number: number(word)?,
         })
     }
-
-    fn spell(&self, out: &mut String) -> Result<(), AllocError> {
-        let number = self.number;
-        write!(out, "{number}")
-    }
 }
 
 impl Spelled for Limit {
@@ -91,11 +72,6 @@ impl Spelled for Limit {
             number: number(word)?,
         })
     }
-
-    fn spell(&self, out: &mut String) -> Result<(), AllocError> {
-        let number = self.number;
-        write!(out, "{number}")
-    }
 }
 
 impl Spelled for Flags {
@@ -105,15 +81,8 @@ impl Spelled for Flags {
         if word.starts_with('+') || word.len() > 8 {
             return Err(Misspelt::Malformed);
         }
-        match u32::from_str_radix(word, 16) {
-            Ok(set) => Ok(Flags { set }),
-            Err(_) => Err(Misspelt::Malformed),
-        }
-    }
-
-    fn spell(&self, out: &mut String) -> Result<(), AllocError> {
-        let set = self.set;
-        write!(out, "{set:08X}")
+        let set = u32::from_str_radix(word, 16).map_err(|_| Misspelt::Malformed)?;
+        Ok(Flags { set })
     }
 }
 
@@ -127,11 +96,5 @@ impl Spelled for Register {
             stamp: number(stamp)?,
             offset: number(offset)?,
         })
-    }
-
-    fn spell(&self, out: &mut String) -> Result<(), AllocError> {
-        let stamp = self.stamp;
-        let offset = self.offset;
-        write!(out, "{stamp},{offset}")
     }
 }

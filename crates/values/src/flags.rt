@@ -1,16 +1,27 @@
 // Flag sets: 32 flags, of two every flag that either has.
-ghost use Rattle.std.specs.Prelude.{◌≡◌, refl, ℕ, ◌<◌, ◌^◌};
+ghost use Rattle.std.specs.Prelude.{◌≡◌, refl, ℕ, ◌<◌, ◌^◌, Some};
 ghost use Rattle.byte_rows.specs.Rows.{in_bytes};
+ghost use Rattle.values.specs.Shown.{hex_8};
 ghost use Rattle.values.specs.Values.{flags_kind};
 ghost use Rattle.byte_rows.proofs.Ones.{number_made};
 ghost use Rattle.std.proofs.Common.{rules};
 
 use kinds::{Coded, Value};
+use std::fmt;
 
 #[derive(Clone, Copy, Debug, PartialEq, Eq)]
 pub struct Flags {
     pub set: u32,
     ghost fits: { «set» < 2 ^ 32 },
+}
+
+impl fmt::Display for Flags {
+    ghost output = { λ v. Some (hex_8 v.«set») };
+
+    fn fmt<W: fmt::Write>(&self, f: &mut fmt::Formatter<W>) -> fmt::Result {
+        let set = self.set;
+        write!(f, "{set:08X}")
+    }
 }
 
 impl Coded for Flags {

@@ -1,16 +1,27 @@
 // Limits: a number of 32 bits, of two the larger.
-ghost use Rattle.std.specs.Prelude.{◌≡◌, refl, ℕ, ◌<◌, ◌^◌};
+ghost use Rattle.std.specs.Prelude.{◌≡◌, refl, ℕ, ◌<◌, ◌^◌, Some};
 ghost use Rattle.byte_rows.specs.Rows.{in_bytes};
 ghost use Rattle.values.specs.Values.{limit_kind};
 ghost use Rattle.byte_rows.proofs.Ones.{number_made};
 ghost use Rattle.std.proofs.Common.{rules};
+ghost use Rattle.std.specs.Fmt.{decimal};
 
 use kinds::{Coded, Value};
+use std::fmt;
 
 #[derive(Clone, Copy, Debug, PartialEq, Eq, PartialOrd, Ord)]
 pub struct Limit {
     pub number: u32,
     ghost fits: { number < 2 ^ 32 },
+}
+
+impl fmt::Display for Limit {
+    ghost output = { λ v. Some (decimal v.number) };
+
+    fn fmt<W: fmt::Write>(&self, f: &mut fmt::Formatter<W>) -> fmt::Result {
+        let number = self.number;
+        write!(f, "{number}")
+    }
 }
 
 impl Coded for Limit {

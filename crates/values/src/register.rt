@@ -1,14 +1,14 @@
 // Registers: a stamp and a bar offset, of two the one with the larger stamp, at equal stamps the larger offset.
-ghost use Rattle.std.specs.Prelude.{◌≡◌, refl, ℕ, ◌<◌, ◌^◌};
+ghost use Rattle.std.specs.Prelude.{◌≡◌, refl, ℕ, ◌<◌, ◌^◌, Some, ◌++◌, ◌∷◌};
 ghost use Rattle.std.specs.Int.Signed.{mag};
 ghost use Rattle.byte_rows.specs.Joins.{stamped};
 ghost use Rattle.values.specs.Values.{register_kind};
-ghost use Rattle.std.proofs.Common.{◌∙◌};
-ghost use Rattle.byte_rows.proofs.Ones.{one_made};
-ghost use Rattle.byte_rows.proofs.Stamps.{stamps_one, offsets_one};
+ghost use Rattle.byte_rows.proofs.Stamps.{stamped_made};
 ghost use Rattle.std.proofs.Common.{rules};
+ghost use Rattle.std.specs.Fmt.{decimal, signed_decimal};
 
 use kinds::{Coded, Value};
+use std::fmt;
 
 #[derive(Clone, Copy, Debug, PartialEq, Eq, PartialOrd, Ord)]
 pub struct Register {
@@ -16,6 +16,16 @@ pub struct Register {
     pub offset: i16,
     ghost stamp_fits: { stamp < 2 ^ 32 },
     ghost offset_fits: { mag offset < 2 ^ 15 },
+}
+
+impl fmt::Display for Register {
+    ghost output = { λ v. Some (decimal v.stamp ++ 44 ∷ signed_decimal v.offset) };
+
+    fn fmt<W: fmt::Write>(&self, f: &mut fmt::Formatter<W>) -> fmt::Result {
+        let stamp = self.stamp;
+        let offset = self.offset;
+        write!(f, "{stamp},{offset}")
+    }
 }
 
 impl Coded for Register {
@@ -31,7 +41,7 @@ impl Coded for Register {
 
     ghost bytes = { λ v. stamped v.stamp v.offset };
 
-    ghost one = { λ a b e. one_made (λ n. n) (λ s p. record { stamp = s; offset = a.offset; stamp_fits = p; offset_fits = a.offset_fits }) a.stamp b.stamp a.stamp_fits b.stamp_fits (stamps_one a.stamp b.stamp a.offset b.offset a.stamp_fits b.stamp_fits e) ∙ one_made mag (λ o q. record { stamp = b.stamp; offset = o; stamp_fits = b.stamp_fits; offset_fits = q }) a.offset b.offset a.offset_fits b.offset_fits (offsets_one a.stamp b.stamp a.offset b.offset a.offset_fits b.offset_fits e) };
+    ghost one = { λ a b. stamped_made (λ s o p q. record { stamp = s; offset = o; stamp_fits = p; offset_fits = q }) a.stamp b.stamp a.offset b.offset a.stamp_fits b.stamp_fits a.offset_fits b.offset_fits };
 
     fn write(&self, out: &mut [u8]) {
         let [a, b, c, d] = self.stamp.to_be_bytes();
