@@ -11,8 +11,8 @@ use tables::{EntryId, NodeId, Tables};
 
 // The value of a key in a collision node.
 fn find_in_node<K: Key, V: Value>(tables: &Tables<K, V>, id: NodeId, key: &K) -> Option<V>
-    requires { SomePart K.Key.kind K.Key.bytes V.Value.bytes (tables_of tables.now) (Child id) 0 }
-    ensures { LookedUp K.Key.kind K.Key.bytes V.Value.bytes (tables_of tables.now) (Child id) 0 (K.Key.bytes key.now) result }
+    requires { SomePart K.kind K.bytes V.bytes (tables_of tables.now) (Child id) 0 }
+    ensures { LookedUp K.kind K.bytes V.bytes (tables_of tables.now) (Child id) 0 (K.bytes key.now) result }
 {
     let node = tables.nodes.cells[id.0 as usize];
     for entry in node.singles() {
@@ -31,8 +31,8 @@ pub fn look_up<K: Key, V: Value>(
     level: u8,
     key: &K,
 ) -> Option<V>
-    requires { SomePart K.Key.kind K.Key.bytes V.Value.bytes (tables_of tables.now) branch level }
-    ensures { LookedUp K.Key.kind K.Key.bytes V.Value.bytes (tables_of tables.now) branch level (K.Key.bytes key.now) result }
+    requires { SomePart K.kind K.bytes V.bytes (tables_of tables.now) branch level }
+    ensures { LookedUp K.kind K.bytes V.bytes (tables_of tables.now) branch level (K.bytes key.now) result }
 {
     match branch {
         Branch::Nothing => None,
@@ -53,8 +53,8 @@ pub fn look_up<K: Key, V: Value>(
 
 // How many settings a branch has. It reads each node of the part once.
 pub fn count<K: Key, V: Value>(tables: &Tables<K, V>, branch: Branch, level: u8) -> usize
-    requires { FewPart K.Key.kind K.Key.bytes V.Value.bytes (tables_of tables.now) branch level }
-    ensures { Counted K.Key.kind K.Key.bytes V.Value.bytes (tables_of tables.now) branch level result }
+    requires { FewPart K.kind K.bytes V.bytes (tables_of tables.now) branch level }
+    ensures { Counted K.kind K.bytes V.bytes (tables_of tables.now) branch level result }
 {
     match branch {
         Branch::Nothing => 0,

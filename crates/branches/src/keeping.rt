@@ -8,8 +8,8 @@ use tables::{Tables, hold_entry, hold_node};
 
 // One more holder of the node or the entry that a branch refers to.
 pub fn keep<K: Key, V: Value>(tables: &mut Tables<K, V>, branch: Branch)
-    requires { Stays K.Key.kind K.Key.bytes V.Value.bytes (tables_of tables.old) branch }
-    ensures { Kept K.Key.kind K.Key.bytes V.Value.bytes (tables_of tables.old) branch (tables_of tables.new) }
+    requires { Stays K.kind K.bytes V.bytes (tables_of tables.old) branch }
+    ensures { Kept K.kind K.bytes V.bytes (tables_of tables.old) branch (tables_of tables.new) }
 {
     match branch {
         Branch::Nothing => {}

@@ -21,8 +21,8 @@ pub fn digit_of(hash: u32, level: u8) -> Digit
 
 // The key and the value of an entry that is held.
 pub fn setting_of<K: Key, V: Value>(entries: &EntryTable<K, V>, id: EntryId) -> (K, V)
-    requires { SomeEntry K.Key.kind K.Key.bytes V.Value.bytes entries.now.cells.now id.0 }
-    ensures { SettingRead K.Key.kind K.Key.bytes V.Value.bytes entries.now.cells.now id.0 result.0 result.1 }
+    requires { SomeEntry K.kind K.bytes V.bytes entries.now.cells.now id.0 }
+    ensures { SettingRead K.kind K.bytes V.bytes entries.now.cells.now id.0 result.0 result.1 }
 {
     entry_cell_at(entries, id.0 as usize).held.unwrap()
 }
@@ -35,8 +35,8 @@ pub fn at_digit<K: Key, V: Value>(
     digit: Digit,
 ) -> Branch
     requires level { (1 ≤ level) × (level ≤ 8) }
-    requires part { SomePart K.Key.kind K.Key.bytes V.Value.bytes (tables_of tables.now) branch level }
-    ensures { GoesOn K.Key.kind K.Key.bytes V.Value.bytes (tables_of tables.now) branch level digit.number result }
+    requires part { SomePart K.kind K.bytes V.bytes (tables_of tables.now) branch level }
+    ensures { GoesOn K.kind K.bytes V.bytes (tables_of tables.now) branch level digit.number result }
 {
     match branch {
         Branch::Nothing => Branch::Nothing,

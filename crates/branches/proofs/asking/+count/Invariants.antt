@@ -7,4 +7,4 @@ decreases-count g l = l.level
 
 abbrev pub invariant-loop-child : goal.invariant-loop-child
 invariant-loop-child g l =
-    Midway g.K.Key.kind g.K.Key.bytes g.V.Value.bytes (tables_of l.fn.tables) l.fn.branch l.fn.level l.child-items l.child-index l.total
+    Midway g.K.Key.kind g.K.Coded.bytes g.V.Coded.bytes (tables_of l.fn.tables) l.fn.branch l.fn.level l.child-items l.child-index l.total
