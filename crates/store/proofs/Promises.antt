@@ -11,7 +11,7 @@ use Rattle.tables.specs.declared.cells.EntryCell.{EntryCell}
 use Rattle.tables.specs.Starts as tables
 use Rattle.store.specs.declared.calls.Call.{Call}
 use Rattle.store.specs.declared.calls.Answer.{Answer}
-use Rattle.store.specs.Stores.{State, Represents, Started}
+use Rattle.store.specs.Stores.{State, Represents}
 use Rattle.store.specs.Fresh.{new_state}
 use Rattle.store.specs.Runs.{Promised, first_calls, MadeCalls, Completed, TurnedAway}
 use Rattle.store.proofs.Fresh.{fresh_represents}
@@ -37,9 +37,6 @@ module _ {X Y : Type 0} (K : KeyKind) (V : ValueKind) (kb : X → List ℕ) (vb 
   -- the store that a run makes stands for the new account
   pub stands_fresh : Represents K V kb vb S (fresh (length cs) (length es))
   stands_fresh = subst (λ (T : State X Y). Represents K V kb vb T (fresh (length cs) (length es))) (sym e) (fresh_represents K V kb vb cs ds es fs F)
-
-  pub new_started : Started K V kb vb S
-  new_started = (fresh (length cs) (length es), stands_fresh)
 
   -- a run that made its calls
   pub completed :

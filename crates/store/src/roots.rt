@@ -3,7 +3,7 @@ ghost use Rattle.std.specs.Prelude.{ℕ, ◌≤◌, List, ◌++◌, length};
 ghost use Rattle.tables.specs.Heaps.{Nodes, Entries, Entryless};
 ghost use Rattle.branches.specs.Branches.{node_of};
 ghost use Rattle.store.specs.Spots.{RootHeld, HeldRoot, GivenUp};
-ghost use Rattle.store.specs.Views.{tables_of};
+ghost use Rattle.branches.specs.States.{tables_of};
 
 use branches::Branch;
 use tables::{EntryTable, NodeTable, hold_node, release};
