@@ -8,7 +8,6 @@ use Rattle.tables.specs.Chains.{occ}
 use Rattle.tables.specs.Heaps.{Nodes}
 use Rattle.tables.proofs.Occurrences.{occ_nil, occ_append}
 use Rattle.branches.specs.declared.branch.Branch.{Branch}
-use Rattle.branches.specs.States.{Tables}
 use Rattle.branches.specs.Branches.{node_of}
 use Rattle.branches.proofs.Growing.{nodes_same, grown_none}
 use Rattle.store.specs.declared.spot.Spot.{Spot}

@@ -1,9 +1,7 @@
 -- Calls that are refused, since a place has not what is wanted of it. Assumes nothing.
-use Rattle.std.proofs.Common.{◌≡◌, ℕ, ◌<◌, List, get_or, Err, Result, IsErrAnd, ◌∙◌, ap, ◌⊎◌, inl, inr}
+use Rattle.std.proofs.Common.{◌≡◌, ℕ, List, get_or, Err, Result, IsErrAnd, ◌∙◌, ap, inl, inr}
 use Rattle.kinds.specs.Kinds.{KeyKind, ValueKind}
 use Rattle.kinds.specs.declared.refusal.Refusal.{Refusal}
-use Rattle.kinds.specs.Refusals as refusals
-use Rattle.kinds.specs.Refusals.{shown}
 use Rattle.model.specs.Accounts.{Account, Version}
 use Rattle.model.specs.Calls.{Call, Answer, refused, Outcome, outcome, refuse, on_place, on_empty, on_draft, on_published, on_live}
 use Rattle.model.specs.Runs.{Made}

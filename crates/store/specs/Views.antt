@@ -2,7 +2,7 @@
 use Rattle.std.specs.Prelude.{List}
 use Rattle.tables.specs.declared.nodes.NodeTable.{NodeTable}
 use Rattle.tables.specs.declared.entries.EntryTable.{EntryTable}
-use Rattle.branches.specs.States.{Tables, tables_of}
+use Rattle.branches.specs.States.{tables_of}
 use Rattle.store.specs.declared.spot.Spot.{Spot}
 use Rattle.store.specs.Stores.{State}
 

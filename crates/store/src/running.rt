@@ -13,13 +13,11 @@ impl<'a, K: Key, V: Value> Store<'a, K, V> {
         ensures many { result ≡ min (length calls.now) (length answers.old) }
         ensures made { MadeCalls K.Key.kind V.Value.kind K.Key.bytes V.Value.bytes self.old self.new calls.now answers.old answers.new result }
     {
-        for (i, answer) in answers.iter_mut().enumerate() {
-            let Some(call) = calls.get(i) else {
-                return i;
-            };
-            *answer = self.step(call);
+        let count = calls.len().min(answers.len());
+        for (i, call) in calls[..count].iter().enumerate() {
+            answers[i] = self.step(call);
         }
-        answers.len()
+        count
     }
 }
 
