@@ -13,7 +13,7 @@ use Rattle.store.specs.declared.spot.Spot.{Spot}
 use Rattle.store.specs.declared.spot.Spot.TheVariants.{Empty, Draft, Published}
 use Rattle.store.specs.Stores.{State, Shows, Represents}
 use Rattle.store.specs.Spots.{IsLive}
-use Rattle.store.proofs.Judging.{draft_not_empty, published_not_empty, empty_not_draft, published_not_draft, empty_not_published, draft_not_published, empty_not_live, live_draft, live_published}
+use Rattle.store.proofs.Judging.{draft_not_empty, published_not_empty, empty_not_draft, published_not_draft, empty_not_published, draft_not_published, empty_not_live, live_draft}
 use Rattle.store.proofs.Places.{shows_at}
 
 -- a version of the account at a place that the store has the branch b for
@@ -95,9 +95,6 @@ module _ {X Y : Type 0} (K : KeyKind) (V : ValueKind) (kb : X → List ℕ) (vb 
 
   pub lawful_draft : (v : Version) → nth a.places i ≡ draft v → Lawful K V v.settings
   lawful_draft v e = lawful K V a rep.reached i v (live_draft K V a i v e)
-
-  pub lawful_published : (v : Version) → nth a.places i ≡ published v → Lawful K V v.settings
-  lawful_published v e = lawful K V a rep.reached i v (live_published K V a i v e)
 
 -- and so sound
 pub lawful_sound : (K : KeyKind) (V : ValueKind) (v : Version) → Lawful K V v.settings → Sound K V v.settings

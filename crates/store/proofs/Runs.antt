@@ -38,10 +38,6 @@ module _ (K : KeyKind) (V : ValueKind) where
     shown_made keys values (Count p) = tt
     shown_made keys values Free = tt
 
-    -- no call yet
-    pub made_none : (S : State X Y) (calls : List (Call X Y)) (old : List (Answer Y)) → MadeCalls K V kb vb S S calls old old 0
-    made_none S calls old = record { account = λ a r. (refl, r); long = refl; kept = refl }
-
     -- the calls so far, with one more
     first_more : (calls : List (Call X Y)) (n : ℕ) (c : Call X Y) → n < length calls → c ≡ get_or calls n c → first_calls K V kb vb (n + 1) calls ≡ first_calls K V kb vb n calls ++ (call_shown kb vb c ∷ [])
     first_more calls n c h e =

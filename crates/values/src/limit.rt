@@ -8,7 +8,7 @@ ghost use Rattle.std.proofs.Common.{rules};
 
 use kinds::Value;
 
-#[derive(Clone, Copy)]
+#[derive(Clone, Copy, Debug, PartialEq, Eq)]
 pub struct Limit {
     pub number: u32,
     ghost fits: { number < 2 ^ 32 },
