@@ -1,16 +1,18 @@
 -- What a call promises, from what the account answers. Assumes nothing.
-use Rattle.std.proofs.Common.{◌≡◌, ℕ, ◌<◌, List, Err, Result, sym, refl, ap, ◌∙◌, inl, inr, arith}
-use Rattle.std.proofs.lemmas.Bool.{cases_lt}
+use Rattle.std.proofs.Common.{◌≡◌, ℕ, List, get_or, Ok, Err, Result, IsErrAnd, sym, refl, ap, ◌∙◌, subst, arith}
 use Rattle.kinds.specs.Kinds.{KeyKind, ValueKind}
 use Rattle.kinds.specs.declared.refusal.Refusal.{Refusal}
 use Rattle.kinds.specs.Refusals as refusals
 use Rattle.kinds.specs.Refusals.{Refused, shown}
 use Rattle.model.specs.Accounts.{Account}
-use Rattle.model.specs.Calls.{Call, Answer, done, spare, refused, Outcome, Free, outcome, after, refuse, on_place}
+use Rattle.model.specs.Calls.{Call, Answer, done, spare, refused, Outcome, Free, outcome, after, refuse}
 use Rattle.model.specs.Runs.{Made}
 use Rattle.store.specs.Stores.{State, Represents, Started, Answered}
-use Rattle.store.specs.Answers.{done_shown}
-use Rattle.store.proofs.Judging.{no_place}
+use Rattle.branches.specs.declared.branch.Branch.{Branch}
+use Rattle.store.specs.declared.spot.Spot.{Spot}
+use Rattle.store.specs.declared.spot.Spot.TheVariants.{Empty}
+use Rattle.store.specs.Spots.{IsLive}
+use Rattle.store.specs.Answers.{result_shown}
 use Rattle.store.proofs.Steps.{refused_step}
 use Rattle.store.proofs.Free.{free_is}
 
@@ -19,8 +21,9 @@ pub done_accepts : (x : Refused) → done ≡ refused x → ⊥
 done_accepts x e = let z : ◌≡◌ {A = ℕ} 0 1 = cc in omega arith
 
 -- a refusal that is handed on
-pub err_shown : (r : Result Unit Refusal) (x y : Refusal) (n : ℕ) → r ≡ Err y → y ≡ x → shown x ≡ refusals.refused n → done_shown r ≡ refused (refusals.refused n)
-err_shown r x y n e f h = ap done_shown e ∙ ap (λ (z : Refusal). refused (shown z)) f ∙ ap refused h
+pub handed_on : {A : Type 0} (f : A → Answer) (r : Result A Refusal) (x : Refusal) → IsErrAnd r (λ y. y ≡ x) → result_shown f r ≡ refused (shown x)
+handed_on f (Ok y) x e = absurd e
+handed_on f (Err y) x e = ap (λ (z : Refusal). refused (shown z)) e
 
 module _ {X Y : Type 0} (K : KeyKind) (V : ValueKind) (kb : X → List ℕ) (vb : Y → List ℕ) (S : State X Y) where
   -- a call that the account refuses
@@ -45,19 +48,26 @@ module _ {X Y : Type 0} (K : KeyKind) (V : ValueKind) (kb : X → List ℕ) (vb 
     unchanged = λ x e. refl;
   }
 
-  -- a call that is done names a place
-  pub names_place :
-      (S' : State X Y) (c : Call) (i : ℕ) (o : Account → Outcome) → ((a : Account) → outcome K V a c ≡ on_place K V a i (o a))
-      → Started K V kb vb S → Answered K V kb vb S S' c done → i < 64
-  names_place S' c i o is started answered =
-      elim (cases_lt i 64) [
-        | inl h ↦ h
-        | inr h ↦
-            let a = started.0 in
-            let e : done ≡ refused (refusals.refused 3) = (answered.account a started.1).0 ∙ ap (λ (x : Outcome). x.answer) (is a ∙ no_place K V a i (o a) (omega arith)) in
-            absurd (done_accepts _ e)
-      ]
+-- after a call the next one may come
+pub still_started :
+    {X Y : Type 0} {K : KeyKind} {V : ValueKind} {kb : X → List ℕ} {vb : Y → List ℕ} {S S' : State X Y} {c : Call} {r : Answer}
+    → Started K V kb vb S → Answered K V kb vb S S' c r → Started K V kb vb S'
+still_started {K = K} {V = V} {c = c} started answered = (after K V started.0 c, (answered.account started.0 started.1).1)
 
-  -- after a call the next one may come
-  pub still_started : (S' : State X Y) (c : Call) (r : Answer) → Answered K V kb vb S S' c r → Started K V kb vb S → Started K V kb vb S'
-  still_started S' c r answered started = (after K V started.0 c, (answered.account started.0 started.1).1)
+-- ---- a store, and what it has inside
+
+pub spot_inside : {X Y : Type 0} {S T : State X Y} {s : Spot} (i : ℕ) → T ≡ S → get_or S.places i Empty ≡ s → get_or T.places i Empty ≡ s
+spot_inside i e h = ap (λ (Z : State _ _). get_or Z.places i Empty) e ∙ h
+
+pub live_inside : {X Y : Type 0} {S T : State X Y} {b : Branch} (i : ℕ) → T ≡ S → IsLive (get_or S.places i Empty) b → IsLive (get_or T.places i Empty) b
+live_inside {b = b} i e h = subst (λ (Z : State _ _). IsLive (get_or Z.places i Empty) b) (sym e) h
+
+pub answered_inside :
+    {X Y : Type 0} {K : KeyKind} {V : ValueKind} {kb : X → List ℕ} {vb : Y → List ℕ} {S T S' : State X Y} {c : Call} {r : Answer}
+    → T ≡ S → Answered K V kb vb T S' c r → Answered K V kb vb S S' c r
+answered_inside {K = K} {V = V} {kb = kb} {vb = vb} {S' = S'} {c = c} {r = r} e h = subst (λ (Z : State _ _). Answered K V kb vb Z S' c r) e h
+
+pub asked_inside :
+    {X Y : Type 0} {K : KeyKind} {V : ValueKind} {kb : X → List ℕ} {vb : Y → List ℕ} {S T : State X Y} {c : Call} {r : Answer}
+    → T ≡ S → Answered K V kb vb T T c r → Answered K V kb vb S S c r
+asked_inside {K = K} {V = V} {kb = kb} {vb = vb} {c = c} {r = r} e h = subst (λ (Z : State _ _). Answered K V kb vb Z Z c r) e h

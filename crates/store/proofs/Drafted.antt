@@ -1,7 +1,7 @@
 -- Drafts are opened as the account opens them. Assumes nothing.
-use Rattle.std.proofs.Common.{◌≡◌, ℕ, ◌+◌, ◌<◌, ◌≤◌, List, [], ◌++◌, length, get_or, set, sym, refl, ap, ◌∙◌, subst, arith}
+use Rattle.std.proofs.Common.{◌≡◌, ℕ, ◌+◌, ◌<◌, ◌≤◌, List, [], ◌++◌, length, get_or, set, Err, Result, IsErrAnd, inl, inr, sym, refl, ap, ◌∙◌, subst, arith}
 use Rattle.kinds.specs.Kinds.{KeyKind, ValueKind}
-use Rattle.kinds.specs.Refusals as refusals
+use Rattle.kinds.specs.declared.refusal.Refusal.{Refusal}
 use Rattle.model.specs.Accounts.{Version, draft, Account, whole}
 use Rattle.model.specs.Calls.{Answer, done, refused, Outcome, Open, OpenFrom, outcome, leave}
 use Rattle.branches.specs.declared.branch.Branch.{Branch}
@@ -11,28 +11,22 @@ use Rattle.branches.specs.Branches.{Is, node_of}
 use Rattle.branches.proofs.Growing.{grown_none, is_grown, EntriesStay, node_held_grown, node_held_sits}
 use Rattle.store.specs.declared.spot.Spot.{Spot}
 use Rattle.store.specs.declared.spot.Spot.TheVariants.{Empty, Draft, Published}
-use Rattle.store.specs.Stores.{State, owners, Represents, Started, Answered}
-use Rattle.store.specs.Spots.{root_of, HeldRoot, RootHeld, GivenUp}
-use Rattle.store.proofs.Judging.{no_place, is_place, empty_is_empty, published_is_published}
-use Rattle.store.proofs.Reading.{at_empty, at_published, not_empty, not_published}
+use Rattle.store.specs.Stores.{State, owners, Represents, Answered}
+use Rattle.store.specs.Spots.{Wanted, IsEmpty, root_of, HeldRoot, RootHeld, GivenUp}
+use Rattle.store.specs.Answers.{result_shown}
+use Rattle.store.proofs.Judging.{is_place, empty_is_empty, published_is_published}
+use Rattle.store.proofs.Reading.{at_empty, at_published, not_empty}
 use Rattle.store.proofs.Places.{owners_few}
 use Rattle.store.proofs.Steps.{nothing_given_up, replaced}
-use Rattle.store.proofs.Answering.{turned_down, done_with, names_place}
+use Rattle.store.proofs.Answering.{handed_on, turned_down, done_with}
 
 module _ {X Y : Type 0} (K : KeyKind) (V : ValueKind) (kb : X → List ℕ) (vb : Y → List ℕ) (S : State X Y) (i : ℕ) where
   -- ---- the empty map
 
-  pub open_nowhere : (r : Answer) → r ≡ refused (refusals.refused 3) → 63 < i → Answered K V kb vb S S (Open i) r
-  open_nowhere r e h = turned_down K V kb vb S (Open i) 3 r e tt (λ a rep. no_place K V a i _ h)
-
-  pub open_taken : (s : Spot) → i < 64 → get_or S.places i Empty ≡ s → (s ≡ Empty → ⊥) → Answered K V kb vb S S (Open i) (refused (refusals.refused 5))
-  open_taken s h e never = turned_down K V kb vb S (Open i) 5 _ refl tt (λ a rep. is_place K V a i _ h ∙ not_empty K V kb vb S a rep i _ (λ q. never (sym e ∙ q)))
-
   pub opened :
-      (s : Spot) → i < 64 → get_or S.places i Empty ≡ s → s ≡ Empty
+      i < 64 → get_or S.places i Empty ≡ Empty
       → Answered K V kb vb S (record { tables = S.tables; places = set S.places i (Draft Nothing) }) (Open i) done
-  opened s h x y =
-      let e : get_or S.places i Empty ≡ Empty = x ∙ y in
+  opened h e =
       done_with K V kb vb S _ (Open i)
       (λ a rep.
       let o = is_place K V a i _ h ∙ empty_is_empty K V a i _ (at_empty K V kb vb S a rep i e) in (
@@ -44,36 +38,14 @@ module _ {X Y : Type 0} (K : KeyKind) (V : ValueKind) (kb : X → List ℕ) (vb 
 
   -- ---- the map of another place
 
-  pub from_nowhere : (j : ℕ) (r : Answer) → r ≡ refused (refusals.refused 3) → 63 < i → Answered K V kb vb S S (OpenFrom i j) r
-  from_nowhere j r e h = turned_down K V kb vb S (OpenFrom i j) 3 r e tt (λ a rep. no_place K V a i _ h)
-
-  pub from_no_source : (j : ℕ) (r : Answer) → r ≡ refused (refusals.refused 3) → i < 64 → 63 < j → Answered K V kb vb S S (OpenFrom i j) r
-  from_no_source j r e h k = turned_down K V kb vb S (OpenFrom i j) 3 r e tt (λ a rep. is_place K V a i _ h ∙ no_place K V a j _ k)
-
-  pub from_unpublished :
-      (j : ℕ) (t : Spot) → i < 64 → j < 64 → get_or S.places j Empty ≡ t → ((b : Branch) → t ≡ Published b → ⊥)
-      → Answered K V kb vb S S (OpenFrom i j) (refused (refusals.refused 4))
-  from_unpublished j t h k e never =
-      turned_down K V kb vb S (OpenFrom i j) 4 _ refl tt
-      (λ a rep. is_place K V a i _ h ∙ is_place K V a j _ k ∙ not_published K V kb vb S a rep j _ (λ b q. never b (sym e ∙ q)))
-
-  pub from_taken :
-      (j : ℕ) (b : Branch) (s t : Spot) → i < 64 → j < 64 → get_or S.places i Empty ≡ s → (s ≡ Empty → ⊥) → get_or S.places j Empty ≡ t → t ≡ Published b
-      → Answered K V kb vb S S (OpenFrom i j) (refused (refusals.refused 5))
-  from_taken j b s t h k e never x y =
-      turned_down K V kb vb S (OpenFrom i j) 5 _ refl tt
-      (λ a rep.
-      let v = at_published K V kb vb S a rep j b (x ∙ y) in
-      is_place K V a i _ h ∙ is_place K V a j _ k ∙ published_is_published K V a j _ v.version v.at ∙ not_empty K V kb vb S a rep i _ (λ q. never (sym e ∙ q)))
-
   -- the source's root is held
   root_is_held : (T : Tables X Y) (N : Notes) (b : Branch) (v : Version) → Is T N b 8 [] (whole v) → HeldRoot T.nodes b
   root_is_held T N Nothing v h = tt
   root_is_held T N (Entry e) v h = tt
   root_is_held T N (Child r) v h = h.0.held
 
-  pub source_held : (a : Account) → Represents K V kb vb S a → (j : ℕ) (b : Branch) (t : Spot) → get_or S.places j Empty ≡ t → t ≡ Published b → HeldRoot S.tables.nodes b
-  source_held a rep j b t x y = let s = at_published K V kb vb S a rep j b (x ∙ y) in root_is_held S.tables rep.notes b s.version s.is
+  pub source_held : (a : Account) → Represents K V kb vb S a → (j : ℕ) (b : Branch) → get_or S.places j Empty ≡ Published b → HeldRoot S.tables.nodes b
+  source_held a rep j b e = let s = at_published K V kb vb S a rep j b e in root_is_held S.tables rep.notes b s.version s.is
 
   pub few_roots : (a : Account) → Represents K V kb vb S a → length (owners S.places) ≤ 65535
   few_roots a rep = few _ _ (owners_few S.places) rep.sixty_four
@@ -114,15 +86,28 @@ module _ {X Y : Type 0} (K : KeyKind) (V : ValueKind) (kb : X → List ℕ) (vb 
         is = is_grown n (λ q. ⊥) (λ k. ⊥) S.tables U N N G (Child r) 8 [] (whole v) h;
       }
 
+  -- the place is taken: the account sees it once the other place is published
+  pub from_taken :
+      (j : ℕ) (b : Branch) {B : Type 0} (f : B → Answer) (r : Result B Refusal) (x : Refusal) → IsErrAnd r (λ y. y ≡ x)
+      → i < 64 → j < 64 → get_or S.places j Empty ≡ Published b → Wanted IsEmpty 5 S.places i (Err x) → Answered K V kb vb S S (OpenFrom i j) (result_shown f r)
+  from_taken j b f r x on h k e w =
+      elim w [
+        | inl n ↦ absurd (omega (arith, h, n.0))
+        | inr n ↦
+            turned_down K V kb vb S (OpenFrom i j) 5 _ (handed_on f r x on ∙ ap refused n.1.1) tt
+            (λ a rep.
+            let v = at_published K V kb vb S a rep j b e in
+            is_place K V a i _ h ∙ is_place K V a j _ k ∙ published_is_published K V a j _ v.version v.at ∙ not_empty K V kb vb S a rep i _ (n.1.0 tt))
+      ]
+
   pub opened_from :
-      (j : ℕ) (b : Branch) (s t : Spot) (U : Tables X Y) → i < 64 → j < 64 → get_or S.places i Empty ≡ s → s ≡ Empty → get_or S.places j Empty ≡ t → t ≡ Published b
+      (j : ℕ) (b : Branch) (U : Tables X Y) → i < 64 → j < 64 → get_or S.places i Empty ≡ Empty → get_or S.places j Empty ≡ Published b
       → HeldOn b U → EntriesStay S.tables U
       → Answered K V kb vb S (record { tables = U; places = set S.places i (Draft b) }) (OpenFrom i j) done
-  opened_from j b s t U h k x y f g held stay =
-      let e : get_or S.places i Empty ≡ Empty = x ∙ y in
+  opened_from j b U h k e f held stay =
       done_with K V kb vb S _ (OpenFrom i j)
       (λ a rep.
-      let v = at_published K V kb vb S a rep j b (f ∙ g) in
+      let v = at_published K V kb vb S a rep j b f in
       let o : outcome K V a (OpenFrom i j) ≡ leave K V a done i (draft v.version) =
       is_place K V a i _ h ∙ is_place K V a j _ k ∙ published_is_published K V a j _ v.version v.at ∙ empty_is_empty K V a i _ (at_empty K V kb vb S a rep i e) in
       let m = held_more U rep.notes (a.calls + 1) b v.version held stay rep.sits v.is in (
@@ -130,11 +115,3 @@ module _ {X Y : Type 0} (K : KeyKind) (V : ValueKind) (kb : X → List ℕ) (vb 
         replaced K V kb vb S a rep (OpenFrom i j) tt i h (Draft b) (draft v.version) (ap (λ (z : Outcome). z.places) o) U rep.notes m.sits
             (λ q. ⊥) (λ k. ⊥) m.grown m.is U (subst (λ (z : Spot). GivenUp (root_of z) U U) (sym e) (nothing_given_up U)),
       ))
-
-  -- ---- the number of a place that was opened
-
-  pub open_inside : (S' : State X Y) → Started K V kb vb S → Answered K V kb vb S S' (Open i) done → i < 64
-  open_inside S' = names_place K V kb vb S S' (Open i) i _ (λ a. refl)
-
-  pub from_inside : (S' : State X Y) (j : ℕ) → Started K V kb vb S → Answered K V kb vb S S' (OpenFrom i j) done → i < 64
-  from_inside S' j = names_place K V kb vb S S' (OpenFrom i j) i _ (λ a. refl)

@@ -4,6 +4,7 @@ pub mod Steps
 pub mod Judging
 pub mod Reading
 pub mod Answering
+pub mod Unwanted
 pub mod Drafted
 pub mod Ended
 pub mod Fresh

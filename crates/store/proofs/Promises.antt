@@ -1,7 +1,6 @@
 -- What holds after every list of calls, at one account; and a whole run. Assumes nothing.
-use Rattle.std.proofs.Common.{◌≡◌, ℕ, ◌≤◌, min, List, length, Err, sym, refl, subst}
+use Rattle.std.proofs.Common.{◌≡◌, ℕ, ◌≤◌, min, List, length}
 use Rattle.kinds.specs.Kinds.{KeyKind, ValueKind}
-use Rattle.kinds.specs.declared.refusal.Refusal.{Refusal}
 use Rattle.model.specs.Accounts.{Account, fresh}
 use Rattle.model.specs.Calls.{run}
 use Rattle.model.specs.Runs.{Reached}
@@ -11,10 +10,10 @@ use Rattle.tables.specs.declared.cells.EntryCell.{EntryCell}
 use Rattle.tables.specs.Starts as tables
 use Rattle.store.specs.declared.calls.Call.{Call}
 use Rattle.store.specs.declared.calls.Answer.{Answer}
-use Rattle.store.specs.Stores.{State, Represents, Started}
+use Rattle.store.specs.Stores.{State}
 use Rattle.store.specs.Fresh.{new_state}
-use Rattle.store.specs.Runs.{Promised, first_calls, MadeCalls, Completed, TurnedAway}
-use Rattle.store.proofs.Fresh.{fresh_represents}
+use Rattle.store.specs.Runs.{Promised, first_calls, MadeCalls, Completed}
+use Rattle.store.proofs.Begun.{starts_fresh}
 
 -- the model's laws at an account that calls lead to
 pub promised : (K : KeyKind) (V : ValueKind) (a : Account) → Reached K V a → Promised K V a
@@ -27,26 +26,13 @@ promised K V a r = record {
   symmetric = λ b s. model.symmetric K V a b r s;
 }
 
--- a run whose tables are too long
-pub turned_away :
-    {X Y : Type 0} (cs ds : List NodeCell) (es fs : List (EntryCell X Y)) (old : List (Answer Y)) (x : Refusal)
-    → tables.Started {A = Unit {0}} cs ds es fs (Err x) → TurnedAway cs ds es fs old old x
-turned_away cs ds es fs old x s = record { number = s.0; too_long = s.1.0; nodes = s.1.1.0; entries = s.1.1.1; answers = refl }
-
 module _ {X Y : Type 0} (K : KeyKind) (V : ValueKind) (kb : X → List ℕ) (vb : Y → List ℕ) (cs ds : List NodeCell) (es fs : List (EntryCell X Y)) (F : tables.Formatted cs ds es fs) (S : State X Y) (e : S ≡ new_state ds fs) where
-  -- the store that a run makes stands for the new account
-  pub stands_fresh : Represents K V kb vb S (fresh (length cs) (length es))
-  stands_fresh = subst (λ (T : State X Y). Represents K V kb vb T (fresh (length cs) (length es))) (sym e) (fresh_represents K V kb vb cs ds es fs F)
-
-  pub new_started : Started K V kb vb S
-  new_started = (fresh (length cs) (length es), stands_fresh)
-
   -- a run that made its calls
   pub completed :
       (S' : State X Y) (calls : List (Call X Y)) (old new : List (Answer Y)) (n : ℕ) → length cs ≤ 65535 → length es ≤ 65535
       → n ≡ min (length calls) (length old) → MadeCalls K V kb vb S S' calls old new n → Completed K V kb vb (length cs) (length es) calls old new n
   completed S' calls old new n few_nodes few_entries as_many M =
-      let all = M.account (fresh (length cs) (length es)) stands_fresh in
+      let all = M.account (fresh (length cs) (length es)) (starts_fresh K V kb vb cs ds es fs S F e) in
       record {
         few_nodes = few_nodes;
         few_entries = few_entries;

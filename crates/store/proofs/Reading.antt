@@ -1,10 +1,10 @@
 -- What stands at one place, in the store and in the account that it represents. Assumes nothing.
-use Rattle.std.proofs.Common.{◌≡◌, ℕ, List, [], get_or, refl, subst}
+use Rattle.std.proofs.Common.{◌≡◌, ℕ, List, [], get_or, refl, subst, inl, inr}
 use Rattle.kinds.specs.Kinds.{KeyKind, ValueKind}
 use Rattle.model.specs.Maps.{Sound}
 use Rattle.model.specs.Tries.{Lawful}
 use Rattle.model.specs.Accounts.{Version, Place, empty, draft, published, Account, nth, whole}
-use Rattle.model.specs.Calls.{Outcome, refuse, on_published, on_empty, on_draft}
+use Rattle.model.specs.Calls.{Outcome, refuse, on_published, on_empty, on_draft, on_live}
 use Rattle.model.proofs.Promises.{lawful}
 use Rattle.branches.specs.declared.branch.Branch.{Branch}
 use Rattle.branches.specs.Branches.{Is}
@@ -12,7 +12,8 @@ use Rattle.branches.specs.States.{Tables, Notes}
 use Rattle.store.specs.declared.spot.Spot.{Spot}
 use Rattle.store.specs.declared.spot.Spot.TheVariants.{Empty, Draft, Published}
 use Rattle.store.specs.Stores.{State, Shows, Represents}
-use Rattle.store.proofs.Judging.{draft_not_empty, published_not_empty, empty_not_draft, published_not_draft, empty_not_published, draft_not_published, live_draft, live_published}
+use Rattle.store.specs.Spots.{IsLive}
+use Rattle.store.proofs.Judging.{draft_not_empty, published_not_empty, empty_not_draft, published_not_draft, empty_not_published, draft_not_published, empty_not_live, live_draft}
 use Rattle.store.proofs.Places.{shows_at}
 
 -- a version of the account at a place that the store has the branch b for
@@ -82,13 +83,18 @@ module _ {X Y : Type 0} (K : KeyKind) (V : ValueKind) (kb : X → List ℕ) (vb 
       go (Draft b) e = draft_not_published K V a i f _ (at_draft b e).at
       go (Published b) e = absurd (never b e)
 
+  pub not_live : (f : Version → Outcome) → ((b : Branch) → IsLive (get_or S.places i Empty) b → ⊥) → on_live K V a i f ≡ refuse K V a 4
+  not_live f never = go spot refl
+    where
+      go : (s : Spot) → spot ≡ s → on_live K V a i f ≡ refuse K V a 4
+      go Empty e = empty_not_live K V a i f (at_empty e)
+      go (Draft b) e = absurd (never b (inl e))
+      go (Published b) e = absurd (never b (inr e))
+
   -- ---- live versions are lawful
 
   pub lawful_draft : (v : Version) → nth a.places i ≡ draft v → Lawful K V v.settings
   lawful_draft v e = lawful K V a rep.reached i v (live_draft K V a i v e)
-
-  pub lawful_published : (v : Version) → nth a.places i ≡ published v → Lawful K V v.settings
-  lawful_published v e = lawful K V a rep.reached i v (live_published K V a i v e)
 
 -- and so sound
 pub lawful_sound : (K : KeyKind) (V : ValueKind) (v : Version) → Lawful K V v.settings → Sound K V v.settings

@@ -9,7 +9,7 @@ use Rattle.model.specs.Runs.{Made}
 use Rattle.store.specs.declared.calls.Call.{Call}
 use Rattle.store.specs.declared.calls.Call.TheVariants.{Open, OpenFrom, Put, Remove, Publish, Abandon, Retire, LookUp, Count, Free}
 use Rattle.store.specs.declared.calls.Answer.{Answer}
-use Rattle.store.specs.Stores.{State, Represents, Started, Answered}
+use Rattle.store.specs.Stores.{State, Represents, Answered}
 use Rattle.store.specs.Answers.{call_shown, answer_shown}
 use Rattle.store.specs.Runs.{first_calls, MadeCalls}
 
@@ -37,16 +37,6 @@ module _ (K : KeyKind) (V : ValueKind) where
     shown_made keys values (LookUp p k) = keys k
     shown_made keys values (Count p) = tt
     shown_made keys values Free = tt
-
-    -- no call yet
-    pub made_none : (S : State X Y) (calls : List (Call X Y)) (old : List (Answer Y)) → MadeCalls K V kb vb S S calls old old 0
-    made_none S calls old = record { account = λ a r. (refl, r); long = refl; kept = refl }
-
-    -- a store that made calls was started too
-    pub made_started :
-        (S S' : State X Y) (calls : List (Call X Y)) (old new : List (Answer Y)) (n : ℕ) → MadeCalls K V kb vb S S' calls old new n
-        → Started K V kb vb S → Started K V kb vb S'
-    made_started S S' calls old new n M s = (run K V s.0 (first_calls K V kb vb n calls), (M.account s.0 s.1).1)
 
     -- the calls so far, with one more
     first_more : (calls : List (Call X Y)) (n : ℕ) (c : Call X Y) → n < length calls → c ≡ get_or calls n c → first_calls K V kb vb (n + 1) calls ≡ first_calls K V kb vb n calls ++ (call_shown kb vb c ∷ [])

@@ -30,9 +30,9 @@ use Rattle.store.specs.Stores.{State, owners, Represents}
 use Rattle.store.specs.Spots.{root_of, GivenUp}
 use Rattle.store.specs.Sets.{set_call}
 use Rattle.store.proofs.Free.{free_is}
-use Rattle.store.proofs.Judging.{no_place, is_place, draft_is_draft, live_draft}
+use Rattle.store.proofs.Judging.{is_place, draft_is_draft, live_draft}
 use Rattle.store.proofs.Places.{owners_few}
-use Rattle.store.proofs.Reading.{at_draft, not_draft, lawful_draft, lawful_sound}
+use Rattle.store.proofs.Reading.{at_draft, lawful_draft, lawful_sound}
 use Rattle.store.proofs.Steps.{clear_now, replaced, turned}
 
 pub le_of : (a b c : ℕ) → a ≡ b → a ≤ c → b ≤ c
@@ -61,22 +61,7 @@ module _ (K : KeyKind) (V : ValueKind) (k : List ℕ) (x : Option (List ℕ)) (k
       go (Some v) r = (key_reads, r)
       go None r = key_reads
 
-  -- nowhere, or no draft
-  pub set_nowhere : (a : Account) → 63 < i → outcome K V a (set_call i k x) ≡ refuse K V a 3
-  set_nowhere a h = go x
-    where
-      go : (y : Option (List ℕ)) → outcome K V a (set_call i k y) ≡ refuse K V a 3
-      go (Some v) = no_place K V a i _ h
-      go None = no_place K V a i _ h
-
   module _ {X Y : Type 0} (kb : X → List ℕ) (vb : Y → List ℕ) (S : State X Y) (a : Account) (rep : Represents K V kb vb S a) (inside : i < 64) where
-    pub set_no_draft : ((b : Branch) → get_or S.places i Empty ≡ Draft b → ⊥) → outcome K V a (set_call i k x) ≡ refuse K V a 6
-    set_no_draft never = go x
-      where
-        go : (y : Option (List ℕ)) → outcome K V a (set_call i k y) ≡ refuse K V a 6
-        go (Some v) = is_place K V a i _ inside ∙ not_draft K V kb vb S a rep i _ never
-        go None = is_place K V a i _ inside ∙ not_draft K V kb vb S a rep i _ never
-
     module _ (b : Branch) (at : get_or S.places i Empty ≡ Draft b) where
       pub v : Version
       v = (at_draft K V kb vb S a rep i b at).version

@@ -31,18 +31,19 @@ answer_shown vb (Refused x) = model.refused (shown x)
 
 -- ---- what each call's own result answers
 
+-- what was done, as f has it, or the refusal
+abbrev pub result_shown : {A : Type 0} → (A → model.Answer) → Result A Refusal → model.Answer
+result_shown f (Ok x) = f x
+result_shown f (Err x) = model.refused (shown x)
+
 abbrev pub done_shown : Result Unit Refusal → model.Answer
-done_shown (Ok u) = model.done
-done_shown (Err x) = model.refused (shown x)
+done_shown = result_shown (λ u. model.done)
 
 abbrev pub took_shown : Result (ℕ × ℕ) Refusal → model.Answer
-took_shown (Ok t) = model.took t.0 t.1
-took_shown (Err x) = model.refused (shown x)
+took_shown = result_shown (λ t. model.took t.0 t.1)
 
 abbrev pub found_shown : {Y : Type 0} → (Y → List ℕ) → Result (Option Y) Refusal → model.Answer
-found_shown vb (Ok o) = model.found (bytes_found vb o)
-found_shown vb (Err x) = model.refused (shown x)
+found_shown vb = result_shown (λ o. model.found (bytes_found vb o))
 
 abbrev pub counted_shown : Result ℕ Refusal → model.Answer
-counted_shown (Ok n) = model.counted n
-counted_shown (Err x) = model.refused (shown x)
+counted_shown = result_shown (λ n. model.counted n)

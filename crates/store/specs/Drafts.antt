@@ -4,15 +4,15 @@ use Rattle.kinds.specs.declared.refusal.Refusal.{Refusal}
 use Rattle.kinds.specs.Refusals.{shown}
 use Rattle.model.specs.Calls.{Answer, done, refused}
 use Rattle.store.specs.declared.draft.Draft.{Draft}
+use Rattle.store.specs.Answers.{result_shown}
 
 -- a call that opens a draft
 abbrev pub opened_shown : Result Draft Refusal → Answer
-opened_shown (Ok d) = done
-opened_shown (Err x) = refused (shown x)
+opened_shown = result_shown (λ d. done)
 
 -- an opened draft has the number of its place
 abbrev pub Numbered : ℕ → Result Draft Refusal → Type 0
-Numbered i (Ok d) = d.place ≡ i
+Numbered i (Ok d) = d ≡ i
 Numbered i (Err x) = Unit {0}
 
 -- a call that takes a draft

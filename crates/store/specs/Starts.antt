@@ -6,9 +6,7 @@ use Rattle.model.specs.Accounts.{fresh}
 use Rattle.tables.specs.declared.cells.NodeCell.{NodeCell}
 use Rattle.tables.specs.declared.cells.EntryCell.{EntryCell}
 use Rattle.store.specs.declared.starting.NotStarted.{NotStarted}
-use Rattle.store.specs.declared.store.Store.{Store}
 use Rattle.store.specs.Stores.{State, Represents}
-use Rattle.store.specs.Views.{state}
 
 -- a table is longer than 65,535 cells: refused with 2, and the tables come back as they were
 pub record GivenBack {X Y : Type 0} (cs : List NodeCell) (es : List (EntryCell X Y)) (u : NotStarted X Y) : Type 0 where
@@ -24,6 +22,6 @@ pub record Begun {X Y : Type 0} (K : KeyKind) (V : ValueKind) (kb : X → List �
   pub account : Represents K V kb vb S (fresh (length cs) (length es))
 
 -- of tables that were cs and es
-abbrev pub New : {X Y : Type 0} → KeyKind → ValueKind → (X → List ℕ) → (Y → List ℕ) → List NodeCell → List (EntryCell X Y) → Result (Store X Y) (NotStarted X Y) → Type 0
-New K V kb vb cs es (Ok s) = Begun K V kb vb cs es (state s)
+abbrev pub New : {X Y : Type 0} → KeyKind → ValueKind → (X → List ℕ) → (Y → List ℕ) → List NodeCell → List (EntryCell X Y) → Result (State X Y) (NotStarted X Y) → Type 0
+New K V kb vb cs es (Ok s) = Begun K V kb vb cs es s
 New K V kb vb cs es (Err u) = GivenBack cs es u

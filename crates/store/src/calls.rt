@@ -17,7 +17,7 @@ pub enum Call<K, V> {
 }
 
 // What a call answers.
-#[derive(Clone, Copy)]
+#[derive(Clone, Copy, Debug, PartialEq, Eq)]
 pub enum Answer<V> {
     Done,
     // so many nodes and entries

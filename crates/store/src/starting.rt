@@ -1,8 +1,10 @@
 // A new store.
+ghost use Rattle.std.specs.Prelude.{◌≡◌, List};
+ghost use Rattle.tables.specs.declared.cells.NodeCell.{NodeCell};
+ghost use Rattle.tables.specs.declared.cells.EntryCell.{EntryCell};
+ghost use Rattle.tables.specs.Starts.{Formatted};
 ghost use Rattle.store.specs.Fresh.{new_state};
 ghost use Rattle.store.specs.Starts.{New};
-ghost use Rattle.store.specs.Views.{state};
-ghost use Rattle.std.specs.Prelude.{◌≡◌};
 
 use super::spot::Spot;
 use super::store::Store;
@@ -17,31 +19,32 @@ pub struct NotStarted<'a, K, V> {
     pub refusal: Refusal,
 }
 
-// A store over two tables whose cells are all free.
-pub(crate) fn over<'a, K: Key, V: Value>(
-    nodes: &'a mut [NodeCell],
-    entries: &'a mut [EntryCell<K, V>],
-) -> Store<'a, K, V>
-    ensures { state result ≡ new_state nodes.old entries.old }
-{
-    let spare = nodes.len();
-    let entry_spare = entries.len();
-    let node_table = NodeTable {
-        cells: nodes,
-        free: 0,
-        spare,
-    };
-    let entry_table = EntryTable {
-        cells: entries,
-        free: 0,
-        spare: entry_spare,
-    };
-    Store {
-        tables: Tables {
-            nodes: node_table,
-            entries: entry_table,
-        },
-        places: [Spot::Empty; 64],
+impl<'a, K: Key, V: Value> Store<'a, K, V> {
+    // A store over two tables whose cells were just made free.
+    pub(crate) fn over(
+        nodes: &'a mut [NodeCell],
+        entries: &'a mut [EntryCell<K, V>],
+    ) -> Store<'a, K, V>
+        requires { (cs : List NodeCell) × ((es : List (EntryCell K V)) × Formatted cs nodes.old es entries.old) }
+        ensures { result ≡ new_state nodes.old entries.old }
+    {
+        let spare = nodes.len();
+        let entry_spare = entries.len();
+        Store {
+            tables: Tables {
+                nodes: NodeTable {
+                    cells: nodes,
+                    free: 0,
+                    spare,
+                },
+                entries: EntryTable {
+                    cells: entries,
+                    free: 0,
+                    spare: entry_spare,
+                },
+            },
+            places: [Spot::Empty; 64],
+        }
     }
 }
 
@@ -53,7 +56,7 @@ pub fn start<'a, K: Key, V: Value>(
     ensures { New K.Key.kind V.Value.kind K.Key.bytes V.Value.bytes nodes.old entries.old result }
 {
     match tables::start(nodes, entries) {
-        Ok(()) => Ok(over(nodes, entries)),
+        Ok(()) => Ok(Store::over(nodes, entries)),
         Err(refusal) => Err(NotStarted {
             nodes,
             entries,

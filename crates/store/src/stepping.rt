@@ -1,69 +1,61 @@
 // One call by the number of its place.
-ghost use Rattle.std.specs.Prelude.{◌≡◌, ℕ, List};
-ghost use Rattle.store.specs.Answers.{answer_shown, call_shown, counted_shown, done_shown, found_shown, took_shown};
-ghost use Rattle.store.specs.Stores.{Started, Answered};
-ghost use Rattle.store.specs.Views.{state};
+ghost use Rattle.store.specs.Answers.{answer_shown, call_shown, result_shown};
+ghost use Rattle.store.specs.Stores.{Answered};
 
 use super::calls::{Answer, Call};
 use super::store::Store;
 use kinds::{Key, Refusal, Value};
 
-// What each call's own result answers.
-
-fn done<V: Copy>(res: Result<(), Refusal>) -> Answer<V>
-    ensures { (vb : V → List ℕ) → answer_shown vb result ≡ done_shown res }
-{
-    match res {
-        Ok(()) => Answer::Done,
-        Err(refusal) => Answer::Refused(refusal),
+impl<'a, K: Key, V: Value> Store<'a, K, V> {
+    // Makes one call by the number of its place.
+    pub(crate) fn step(&mut self, call: &Call<K, V>) -> Answer<V>
+        ensures { Answered K.Key.kind V.Value.kind K.Key.bytes V.Value.bytes self.old self.new (call_shown K.Key.bytes V.Value.bytes call.now) (answer_shown V.Value.bytes result) }
+    {
+        match self.attempt(call) {
+            Ok(answer) => answer,
+            Err(refusal) => Answer::Refused(refusal),
+        }
     }
-}
 
-fn took<V: Copy>(res: Result<(usize, usize), Refusal>) -> Answer<V>
-    ensures { (vb : V → List ℕ) → answer_shown vb result ≡ took_shown res }
-{
-    match res {
-        Ok((nodes, entries)) => Answer::Took(nodes, entries),
-        Err(refusal) => Answer::Refused(refusal),
-    }
-}
-
-fn found<V: Copy>(res: Result<Option<V>, Refusal>) -> Answer<V>
-    ensures { (vb : V → List ℕ) → answer_shown vb result ≡ found_shown vb res }
-{
-    match res {
-        Ok(value) => Answer::Found(value),
-        Err(refusal) => Answer::Refused(refusal),
-    }
-}
-
-fn counted<V: Copy>(res: Result<usize, Refusal>) -> Answer<V>
-    ensures { (vb : V → List ℕ) → answer_shown vb result ≡ counted_shown res }
-{
-    match res {
-        Ok(count) => Answer::Counted(count),
-        Err(refusal) => Answer::Refused(refusal),
-    }
-}
-
-// Makes one call by the number of its place.
-pub(crate) fn step<K: Key, V: Value>(store: &mut Store<K, V>, call: &Call<K, V>) -> Answer<V>
-    requires { Started K.Key.kind V.Value.kind K.Key.bytes V.Value.bytes (state store.old) }
-    ensures { Answered K.Key.kind V.Value.kind K.Key.bytes V.Value.bytes (state store.old) (state store.new) (call_shown K.Key.bytes V.Value.bytes call.now) (answer_shown V.Value.bytes result) }
-{
-    match call {
-        Call::Open(place) => done(store.open_at(*place)),
-        Call::OpenFrom(place, from) => done(store.open_from_at(*place, *from)),
-        Call::Put(place, key, value) => took(store.put_at(*place, key, value)),
-        Call::Remove(place, key) => took(store.remove_at(*place, key)),
-        Call::Publish(place) => done(store.publish_at(*place)),
-        Call::Abandon(place) => done(store.abandon_at(*place)),
-        Call::Retire(place) => done(store.retire_at(*place)),
-        Call::LookUp(place, key) => found(store.look_up_at(*place, key)),
-        Call::Count(place) => counted(store.count_at(*place)),
-        Call::Free => {
-            let (nodes, entries) = store.free_now();
-            Answer::Spare(nodes, entries)
+    // Makes one call: what it answers, or why it is refused.
+    fn attempt(&mut self, call: &Call<K, V>) -> Result<Answer<V>, Refusal>
+        ensures { Answered K.Key.kind V.Value.kind K.Key.bytes V.Value.bytes self.old self.new (call_shown K.Key.bytes V.Value.bytes call.now) (result_shown (answer_shown V.Value.bytes) result) }
+    {
+        match call {
+            Call::Open(place) => {
+                self.open_at(*place)?;
+                Ok(Answer::Done)
+            }
+            Call::OpenFrom(place, from) => {
+                self.open_from_at(*place, *from)?;
+                Ok(Answer::Done)
+            }
+            Call::Put(place, key, value) => {
+                let (nodes, entries) = self.put_at(*place, key, value)?;
+                Ok(Answer::Took(nodes, entries))
+            }
+            Call::Remove(place, key) => {
+                let (nodes, entries) = self.remove_at(*place, key)?;
+                Ok(Answer::Took(nodes, entries))
+            }
+            Call::Publish(place) => {
+                self.publish_at(*place)?;
+                Ok(Answer::Done)
+            }
+            Call::Abandon(place) => {
+                self.abandon_at(*place)?;
+                Ok(Answer::Done)
+            }
+            Call::Retire(place) => {
+                self.retire(*place)?;
+                Ok(Answer::Done)
+            }
+            Call::LookUp(place, key) => Ok(Answer::Found(self.look_up(*place, key)?)),
+            Call::Count(place) => Ok(Answer::Counted(self.count(*place)?)),
+            Call::Free => {
+                let (nodes, entries) = self.free();
+                Ok(Answer::Spare(nodes, entries))
+            }
         }
     }
 }

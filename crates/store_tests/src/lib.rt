@@ -4,42 +4,11 @@
 #[cfg(test)]
 mod tests {
     use keys::Id;
+    use kinds::Refusal;
     use std::test::Fail;
     use store::{Answer, Call, run};
     use tables::{EntryCell, NodeCell};
     use values::Limit;
-
-    fn took(answer: Answer<Limit>, nodes: usize, entries: usize) -> bool {
-        match answer {
-            Answer::Took(n, e) => n == nodes && e == entries,
-            _ => false,
-        }
-    }
-
-    fn spare(answer: Answer<Limit>, nodes: usize, entries: usize) -> bool {
-        match answer {
-            Answer::Spare(n, e) => n == nodes && e == entries,
-            _ => false,
-        }
-    }
-
-    fn refused(answer: Answer<Limit>, number: u8) -> bool {
-        match answer {
-            Answer::Refused(refusal) => refusal.number() == number,
-            _ => false,
-        }
-    }
-
-    fn found(answer: Answer<Limit>, value: u32) -> bool {
-        match answer {
-            Answer::Found(Some(limit)) => limit.number == value,
-            _ => false,
-        }
-    }
-
-    fn nothing(answer: Answer<Limit>) -> bool {
-        matches!(answer, Answer::Found(None))
-    }
 
     #[test]
     fn two_ids_of_one_digit(rt: HostRuntime) -> Result<(), Fail> {
@@ -66,20 +35,28 @@ mod tests {
         ];
         let mut answers: [Answer<Limit>; 14] = [Answer::Done; 14];
         let made = run(&mut nodes, &mut entries, &calls, &mut answers);
-        assert!(rt; matches!(made, Ok(14)));
-        assert!(rt; took(answers[1], 1, 1), "the first put");
-        assert!(rt; took(answers[2], 2, 1), "the second put");
-        assert!(rt; found(answers[3], 5), "16 is there");
-        assert!(rt; nothing(answers[4]), "1 is not");
-        assert!(rt; matches!(answers[5], Answer::Counted(2)));
-        assert!(rt; spare(answers[6], 1, 0), "one node is free");
-        assert!(rt; refused(answers[7], 3), "place 70");
-        assert!(rt; took(answers[8], 0, 0), "an idle put");
-        assert!(rt; refused(answers[9], 11), "no room");
-        assert!(rt; matches!(answers[10], Answer::Done));
-        assert!(rt; refused(answers[11], 6), "a published place is no draft");
-        assert!(rt; matches!(answers[12], Answer::Done));
-        assert!(rt; spare(answers[13], 3, 2), "all is free again");
+        assert_eq!(rt; made, Ok(14));
+        assert_eq!(rt; answers[1], Answer::Took(1, 1), "the first put");
+        assert_eq!(rt; answers[2], Answer::Took(2, 1), "the second put");
+        assert_eq!(rt; answers[3], Answer::Found(Some(five)), "16 is there");
+        assert_eq!(rt; answers[4], Answer::Found(None), "1 is not");
+        assert_eq!(rt; answers[5], Answer::Counted(2));
+        assert_eq!(rt; answers[6], Answer::Spare(1, 0), "one node is free");
+        assert_eq!(rt;
+            answers[7],
+            Answer::Refused(Refusal::NoSuchPlace),
+            "3: place 70"
+        );
+        assert_eq!(rt; answers[8], Answer::Took(0, 0), "an idle put");
+        assert_eq!(rt; answers[9], Answer::Refused(Refusal::NoRoom), "11: no room");
+        assert_eq!(rt; answers[10], Answer::Done);
+        assert_eq!(rt;
+            answers[11],
+            Answer::Refused(Refusal::NotADraft),
+            "6: a published place is no draft"
+        );
+        assert_eq!(rt; answers[12], Answer::Done);
+        assert_eq!(rt; answers[13], Answer::Spare(3, 2), "all is free again");
         Ok(())
     }
 }

@@ -1,8 +1,7 @@
-use Rattle.store.specs.Views.{state}
 use Rattle.store.proofs.Begun.{starts_fresh}
 use Rattle.store.proofs.starting.start.Goals as goal
 
 pub returns-in-Ok : goal.returns-in-Ok
 returns-in-Ok g c =
     let s = c.in-Ok.ensures in
-    record { few_nodes = s.0; few_entries = s.1.0; account = starts_fresh _ _ _ _ c.args.nodes.now c.start.new.nodes c.args.entries.now c.start.new.entries (state c.over.result) s.1.1 c.over.ensures }
+    record { few_nodes = s.0; few_entries = s.1.0; account = starts_fresh _ _ _ _ c.args.nodes.now c.start.new.nodes c.args.entries.now c.start.new.entries c.over.result s.1.1 c.over.ensures }

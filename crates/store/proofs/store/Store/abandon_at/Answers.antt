@@ -1,28 +1,12 @@
-use Rattle.std.proofs.lemmas.Result.{err_from_is_err_and}
-use Rattle.branches.specs.States.{tables_of}
-use Rattle.store.specs.Views.{state}
-use Rattle.store.proofs.Answering.{err_shown}
-use Rattle.store.proofs.Ended.{abandon_nowhere, abandon_no_draft, abandoned, root_apart}
+use Rattle.std.proofs.Common.{refl}
+use Rattle.model.specs.Calls.{Abandon}
+use Rattle.store.proofs.Unwanted.{undrafted}
+use Rattle.store.proofs.Ended.{abandoned}
 use Rattle.store.proofs.store.Store.abandon_at.Goals as goal
 
 pub returns-in_err-root : goal.returns-in_err-root
 returns-in_err-root g c =
-    let p = err_from_is_err_and c.from_residual.result c.from_residual.ensures.1 in
-    let h = c.in_err-root.ensures in
-    abandon_nowhere _ _ _ _ (state c.args.self.now) _ _ (err_shown c.from_residual.result c.in_err-root.field-0.0 p.0 3 p.1 p.2 h.1) h.0
+    undrafted g.K.Key.kind g.V.Value.kind _ _ _ (Abandon c.args.place) tt c.args.place _ _ _ c.from_residual.ensures.1 _ (λ a _. refl) c.in_err-root.ensures
 
-pub returns-in_default : goal.returns-in_default
-returns-in_default g c = let h = c.in_ok-root.ensures in abandon_no_draft _ _ _ _ (state c.args.self.now) _ c.in_ok-root.field-0 h.0 h.1 c.in_default.not-Draft
-
-pub give_up-requires : goal.give_up-requires
-give_up-requires g c =
-    let h = c.in_ok-root.ensures in
-    let r = c.requires.1 in
-    record {
-      nodes = (_, root_apart _ _ _ _ (state c.args.self.now) _ _ r h.0 _ c.in_ok-root.field-0 h.1 c.in-Draft.is);
-      entries = (_, r.sits.entries);
-      entryless = r.sits.entryless;
-    }
-
-pub returns-in-Draft : goal.returns-in-Draft
-returns-in-Draft g c = let h = c.in_ok-root.ensures in abandoned _ _ _ _ (state c.args.self.now) _ c.in-Draft.root c.in_ok-root.field-0 (tables_of c.give_up.new.tables) h.0 h.1 c.in-Draft.is c.give_up.ensures
+pub returns : goal.returns
+returns g c = let h = c.in_ok-root.ensures in abandoned _ _ _ _ _ _ _ h.0 _ c.clear.ensures.tables c.clear.ensures.places h.1

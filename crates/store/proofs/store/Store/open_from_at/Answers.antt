@@ -1,44 +1,39 @@
 use Rattle.std.proofs.Common.{refl}
-use Rattle.std.proofs.lemmas.Result.{err_from_is_err_and}
-use Rattle.store.specs.Answers.{done_shown}
-use Rattle.store.specs.Views.{state}
-use Rattle.store.proofs.Answering.{err_shown}
-use Rattle.store.proofs.Drafted.{from_nowhere, from_no_source, from_unpublished, from_taken, source_held, few_roots, opened_from}
+use Rattle.model.specs.Calls.{OpenFrom}
+use Rattle.store.proofs.Answering.{spot_inside, answered_inside, still_started}
+use Rattle.store.proofs.Judging.{is_place}
+use Rattle.store.proofs.Unwanted.{unplaced, unpublished}
+use Rattle.store.proofs.Drafted.{from_taken, source_held, few_roots, opened_from}
 use Rattle.store.proofs.store.Store.open_from_at.Goals as goal
 
-pub returns-in_err-to : goal.returns-in_err-to
-returns-in_err-to g c =
-    let p = err_from_is_err_and c.from_residual.result c.from_residual.ensures.1 in
-    let h = c.in_err-to.ensures in
-    from_nowhere _ _ _ _ (state c.args.self.now) c.args.place c.args.from _ (err_shown c.from_residual.result c.in_err-to.field-0.0 p.0 3 p.1 p.2 h.1) h.0
+pub returns-in_err-spot_at-clause-answered : goal.returns-in_err-spot_at-clause-answered
+returns-in_err-spot_at-clause-answered g c =
+    unplaced g.K.Key.kind g.V.Value.kind _ _ _ (OpenFrom c.args.place c.args.from) tt c.args.place _ _ _ c.from_residual.ensures.1 _ (λ a _. refl) c.in_err-spot_at.ensures
 
-pub returns-in_err-source : goal.returns-in_err-source
-returns-in_err-source g c =
-    let p = err_from_is_err_and c.from_residual-in_err-source.result c.from_residual-in_err-source.ensures.1 in
-    let h = c.in_err-source.ensures in
-    from_no_source _ _ _ _ (state c.args.self.now) c.args.place c.args.from (done_shown c.from_residual-in_err-source.result) (err_shown c.from_residual-in_err-source.result c.in_err-source.field-0.0 p.0 3 p.1 p.2 h.1) c.in_ok-to.ensures.0 h.0
+pub returns-in_err-root-clause-answered : goal.returns-in_err-root-clause-answered
+returns-in_err-root-clause-answered g c =
+    unpublished g.K.Key.kind g.V.Value.kind _ _ _ (OpenFrom c.args.place c.args.from) tt c.args.from _ _ _ c.from_residual-in_err-root.ensures.1 _
+    (λ a _. is_place g.K.Key.kind g.V.Value.kind a c.args.place _ c.in_ok-spot_at.ensures.0) c.in_err-root.ensures
 
-pub returns-in_default : goal.returns-in_default
-returns-in_default g c =
-    let h = c.in_ok-source.ensures in
-    from_unpublished _ _ _ _ (state c.args.self.now) c.args.place c.args.from c.in_ok-source.source c.in_ok-to.ensures.0 h.0 h.1 c.in_default.not-Published
+pub returns-in_err-empty_at-clause-answered : goal.returns-in_err-empty_at-clause-answered
+returns-in_err-empty_at-clause-answered g c =
+    let k = c.in_ok-root.ensures in
+    from_taken _ _ _ _ _ _ _ _ _ _ _ c.from_residual-in_err-empty_at.ensures.1 c.in_ok-spot_at.ensures.0 k.0 k.1 c.in_err-empty_at.ensures
 
-pub hold_root-requires : goal.hold_root-requires
-hold_root-requires g c =
-    let r = c.requires.1 in
-    record {
-      held = source_held _ _ _ _ (state c.args.self.now) c.args.place _ r c.args.from _ c.in_ok-source.source c.in_ok-source.ensures.1 c.in-Published.is;
-      heap = (_, (r.sits.nodes, few_roots _ _ _ _ (state c.args.self.now) c.args.place _ r));
-    }
+pub hold_root-requires-clause-held : goal.hold_root-requires-clause-held
+hold_root-requires-clause-held g c = source_held _ _ _ _ _ c.args.place _ c.self.invariant.1 c.args.from _ (spot_inside _ c.self.view_is c.in_ok-root.ensures.1)
 
-pub returns-in-Empty : goal.returns-in-Empty
-returns-in-Empty g c =
-    let h = c.in_ok-to.ensures in
-    let k = c.in_ok-source.ensures in
-    opened_from _ _ _ _ (state c.args.self.now) c.args.place c.args.from c.in-Published.root c.in_ok-to.to c.in_ok-source.source _ h.0 k.0 h.1 c.in-Empty.is k.1 c.in-Published.is c.hold_root.ensures (refl, refl, refl)
+pub hold_root-requires-clause-heap : goal.hold_root-requires-clause-heap
+hold_root-requires-clause-heap g c = let r = c.self.invariant.1 in (_, (r.sits.nodes, few_roots _ _ _ _ _ c.args.place _ r))
 
-pub returns-in_default-to : goal.returns-in_default-to
-returns-in_default-to g c =
-    let h = c.in_ok-to.ensures in
-    let k = c.in_ok-source.ensures in
-    from_taken _ _ _ _ (state c.args.self.now) c.args.place c.args.from c.in-Published.root c.in_ok-to.to c.in_ok-source.source h.0 k.0 h.1 c.in_default-to.not-Empty k.1 c.in-Published.is
+pub invariant_of-self : goal.invariant_of-self
+invariant_of-self g c =
+    let h = c.in_ok-empty_at.ensures in
+    let k = c.in_ok-root.ensures in
+    still_started c.self.invariant (opened_from _ _ _ _ _ _ _ _ _ h.0 k.0 (spot_inside _ c.self.view_is h.1) (spot_inside _ c.self.view_is k.1) c.hold_root.ensures (refl, refl, refl))
+
+pub returns-clause-answered : goal.returns-clause-answered
+returns-clause-answered g c =
+    let h = c.in_ok-empty_at.ensures in
+    let k = c.in_ok-root.ensures in
+    answered_inside c.self.view_is (opened_from _ _ _ _ _ _ _ _ _ h.0 k.0 (spot_inside _ c.self.view_is h.1) (spot_inside _ c.self.view_is k.1) c.hold_root.ensures (refl, refl, refl))

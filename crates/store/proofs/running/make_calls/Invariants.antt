@@ -1,6 +1,0 @@
-use Rattle.store.specs.Runs.{MadeCalls}
-use Rattle.store.specs.Views.{state}
-use Rattle.store.proofs.running.make_calls.Given as goal
-
-abbrev pub invariant-loop-i : goal.invariant-loop-i
-invariant-loop-i g l = MadeCalls g.K.Key.kind g.V.Value.kind g.K.Key.bytes g.V.Value.bytes (state l.initial.store) (state l.store) l.calls l.initial.answers l.answers l.i
