@@ -48,8 +48,7 @@ impl Account {
 
     // A key or a value from its word, or nothing where its kind refuses it, which is noted in the account.
     fn parse<T: Spelled>(&mut self, line: usize, word: &str) -> Result<Option<T>, Fault> {
-        let parsed: Result<T, Misspelt> = T::parse(word);
-        match parsed {
+        match T::parse(word) {
             Ok(x) => Ok(Some(x)),
             Err(Misspelt::Refused(refusal)) => {
                 let number = refusal.number();
