@@ -48,8 +48,7 @@ impl Account {
 
     // A key or a value from its word, or nothing where its kind refuses it, which is noted in the account.
     fn parse<T: Spelled>(&mut self, line: usize, word: &str) -> Result<Option<T>, Fault> {
-        let parsed: Result<T, Misspelt> = T::parse(word);
-        match parsed {
+        match T::parse(word) {
             Ok(x) => Ok(Some(x)),
             Err(Misspelt::Refused(refusal)) => {
                 let number = refusal.number();
@@ -173,23 +172,28 @@ impl Account {
         }
     }
 
+    // The lines from each sheet's first to the next sheet are a part; what comes before the first sheet is blank.
     fn unite_all(&mut self, lines: &[NumberedLine]) -> Result<(), Fault> {
-        let (before, sheets) = lines.split_at(lines_before_sheet(lines));
-        for line in before {
-            if !matches!(line.says, Line::Blank) {
+        for part in lines.chunk_by(|_, next| !matches!(next.says, Line::Sheet { .. })) {
+            if let Some(
+                (
+                    NumberedLine {
+                        number,
+                        says: Line::Sheet {
+                            key_kind,
+                            value_kind,
+                        },
+                    },
+                    rest,
+                ),
+            ) = part.split_first()
+            {
+                self.unite_by_kinds(key_kind, value_kind, *number, rest)?;
+            } else if let Some(line) = part.iter().find(|line| !matches!(line.says, Line::Blank)) {
                 return Err(Fault::Line {
                     number: line.number,
                     expected: "sheet KEYKIND VALUEKIND",
                 });
-            }
-        }
-        for (i, line) in sheets.iter().enumerate() {
-            if let Line::Sheet {
-                key_kind,
-                value_kind,
-            } = line.says
-            {
-                self.unite_by_kinds(key_kind, value_kind, line.number, &sheets[i + 1..])?;
             }
         }
         Ok(())
@@ -209,16 +213,6 @@ impl Account {
         }
         Ok(())
     }
-}
-
-// How many lines come before the first sheet.
-fn lines_before_sheet(lines: &[NumberedLine]) -> usize
-    ensures { result ≤ length lines.now }
-{
-    lines
-        .iter()
-        .position(|line| matches!(line.says, Line::Sheet { .. }))
-        .unwrap_or(lines.len())
 }
 
 // What the program prints of a text of sheets.

@@ -12,12 +12,6 @@ pub enum Misspelt {
     Malformed,
 }
 
-impl From<Refusal> for Misspelt {
-    fn from(refusal: Refusal) -> Misspelt {
-        Misspelt::Refused(refusal)
-    }
-}
-
 pub trait Spelled: Copy + Display {
     // What a word of this kind looks like.
     const EXPECTED: &'static str;
@@ -40,7 +34,7 @@ impl Spelled for Path {
     const EXPECTED: &'static str = "a path";
 
     fn parse(word: &str) -> Result<Self, Misspelt> {
-        Ok(Path::new(word.as_bytes())?)
+        Path::new(word.as_bytes()).map_err(Misspelt::Refused)
     }
 }
 
