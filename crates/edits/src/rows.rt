@@ -6,7 +6,7 @@ ghost use Rattle.tables.specs.Cells.{singles};
 ghost use Rattle.branches.specs.Branches.{SomeEntry};
 ghost use Rattle.branches.specs.States.{tables_of};
 ghost use Rattle.edits.specs.Sets.{value_bytes, Seen, Estimated, Ready, Done};
-ghost use Rattle.edits.specs.Rowing.{NodeIn, entries_of, Found, Split, entries_in, Rowful, Keeping, EntriesKept, Adding, Added, value_held, RowEstimate};
+ghost use Rattle.edits.specs.Rowing.{NodeIn, entries_of, Found, Split, entries_in, Rowful, Keeping, EntriesKept, Adding, Added, value_held};
 
 use super::estimate::Estimate;
 use branches::{Branch, Handful, assemble, empty_handed, setting_of, take_up};
@@ -143,20 +143,6 @@ pub(crate) fn same_value<K: Key, V: Value>(
     }
 }
 
-// The estimate of a row of so many settings.
-fn estimate_of(count: usize, some: bool, same: bool) -> Estimate
-    ensures { RowEstimate count some same result }
-{
-    Estimate {
-        size: count.min(2),
-        ours: same,
-        theirs: same,
-        crowded: count > 16,
-        nodes: if count > 1 && !same { 1 } else { 0 },
-        entries: if some && !same { 1 } else { 0 },
-    }
-}
-
 // What setting one key of a branch at the deepest level would make of it.
 pub fn estimate_row<K: Key, V: Value>(
     tables: &Tables<K, V>,
@@ -172,5 +158,5 @@ pub fn estimate_row<K: Key, V: Value>(
     let same = same_value(&tables.entries, found, value);
     let some = value.is_some();
     let count = before.len() + usize::from(some) + after.len();
-    estimate_of(count, some, same)
+    Estimate::of_row(count, some, same)
 }

@@ -21,8 +21,8 @@ estimate_set-new-requires g t c κs within =
       ),
     )
 
-pub together-sum-requires : goal.together-sum-requires
-together-sum-requires g t c =
+pub and-sum-requires : goal.and-sum-requires
+and-sum-requires g t c =
     let tall : 0 < c.args.level = omega arith in
     elim c.if-number-digit.branch [
       | then-number-digit w ↦
@@ -30,7 +30,7 @@ together-sum-requires g t c =
           (digit_set _ _ _ _ _ _ _ _ _ tall _ (omega arith) _ c.at_digit-old.ensures _ _ c.hash.ensures c.digit_of-digit.ensures w.if-number-digit.true _ _ w.new-is w.estimate_set-new.ensures) (omega arith) c.requires
       | else-number-digit w ↦
           addable _ _ _ _ _ _ _ _ _ tall _ _ c.loop-number.invariant _
-          (digit_kept _ _ _ _ _ _ _ _ _ tall _ (omega arith) _ c.at_digit-old.ensures _ _ c.hash.ensures c.digit_of-digit.ensures w.if-number-digit.false _ _ w.new-is w.unchanged-new.ensures) (omega arith) c.requires
+          (digit_kept _ _ _ _ _ _ _ _ _ tall _ (omega arith) _ c.at_digit-old.ensures _ _ c.hash.ensures c.digit_of-digit.ensures w.if-number-digit.false _ _ w.new-is w.of_kept-new.ensures) (omega arith) c.requires
     ]
 
 pub loop-number-preserved : goal.loop-number-preserved
@@ -39,10 +39,10 @@ loop-number-preserved g t c =
     elim c.if-number-digit.branch [
       | then-number-digit w ↦
           summed_on _ _ _ _ _ _ _ _ _ tall _ _ c.loop-number.invariant _
-          (digit_set _ _ _ _ _ _ _ _ _ tall _ (omega arith) _ c.at_digit-old.ensures _ _ c.hash.ensures c.digit_of-digit.ensures w.if-number-digit.true _ _ w.new-is w.estimate_set-new.ensures) _ c.together-sum.ensures
+          (digit_set _ _ _ _ _ _ _ _ _ tall _ (omega arith) _ c.at_digit-old.ensures _ _ c.hash.ensures c.digit_of-digit.ensures w.if-number-digit.true _ _ w.new-is w.estimate_set-new.ensures) _ c.and-sum.ensures
       | else-number-digit w ↦
           summed_on _ _ _ _ _ _ _ _ _ tall _ _ c.loop-number.invariant _
-          (digit_kept _ _ _ _ _ _ _ _ _ tall _ (omega arith) _ c.at_digit-old.ensures _ _ c.hash.ensures c.digit_of-digit.ensures w.if-number-digit.false _ _ w.new-is w.unchanged-new.ensures) _ c.together-sum.ensures
+          (digit_kept _ _ _ _ _ _ _ _ _ tall _ (omega arith) _ c.at_digit-old.ensures _ _ c.hash.ensures c.digit_of-digit.ensures w.if-number-digit.false _ _ w.new-is w.of_kept-new.ensures) _ c.and-sum.ensures
     ]
 
 pub close-requires : goal.close-requires

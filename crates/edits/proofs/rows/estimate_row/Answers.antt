@@ -15,5 +15,5 @@ pub returns : goal.returns
 returns g c = record {
   told = λ q.
       seen_told _ _ _ _ _ _ c.args.key.now c.args.value q _ (c.singles.ensures ∙ c.node_of-node.ensures) _ _ _ c.split_row-found.ensures
-      _ c.same_value-same.ensures _ c.is_some-some.ensures _ c.from.ensures _ c.estimate_of.ensures;
+      _ c.same_value-same.ensures _ c.is_some-some.ensures _ c.from.ensures _ c.of_row.ensures;
 }
