@@ -1,5 +1,5 @@
 // What setting one key of a branch would make of it: a pass that reads, and changes nothing.
-ghost use Rattle.std.specs.Prelude.{◌<◌, ℕ};
+ghost use Rattle.std.specs.Prelude.{ℕ};
 ghost use Rattle.branches.specs.States.{tables_of};
 ghost use Rattle.branches.specs.Branches.{SomePart};
 ghost use Rattle.edits.specs.Sets.{Seen, Estimated, value_bytes};
@@ -56,7 +56,7 @@ pub fn estimate_set<K: Key, V: Value>(
     for number in 0u8..16 {
         let g = Digit { number };
         let old = at_digit(tables, at, level, g);
-        let new = if number == digit.number {
+        let new = if g == digit {
             estimate_set(tables, old, key, value, level - 1)
         } else {
             Estimate::of_kept(old)

@@ -1,5 +1,5 @@
 // Setting one key of a branch: a value put there, or taken away.
-ghost use Rattle.std.specs.Prelude.{◌≡◌, true, ℕ};
+ghost use Rattle.std.specs.Prelude.{ℕ};
 ghost use Rattle.branches.specs.States.{tables_of};
 ghost use Rattle.branches.specs.Branches.{SomePart};
 ghost use Rattle.edits.specs.Sets.{Ready, Done, FoundAlone, value_bytes};
@@ -49,7 +49,7 @@ pub fn set<K: Key, V: Value>(
     for number in 0u8..16 {
         let g = Digit { number };
         let old = at_digit(tables, at, level, g);
-        let new = if number == digit.number {
+        let new = if g == digit {
             set(tables, old, key, value, level - 1)
         } else {
             keep(tables, old);
