@@ -1,9 +1,12 @@
 -- What setting one key of a row would take. Assumes nothing.
-use Rattle.std.proofs.Common.{◌≡◌, ℕ, ◌+◌, ◌-◌, ◌≤◌, Bool, true, false, cond, not, ltb, List, [], ◌∷◌, ◌++◌, length, get_or, take, drop, is_some, Some, None, Decides, Option, sym, refl, ap, ◌∙◌, inl, inr, arith}
+use Rattle.std.proofs.Common.{◌≡◌, ℕ, ◌+◌, ◌≤◌, Bool, true, false, cond, ltb, List, [], ◌∷◌, ◌++◌, length, get_or, take, drop, is_some, Some, None, IfSome, All, Decides, Option, sym, refl, ap, ap₂, ◌∙◌, subst, inl, inr, arith, length-drop}
 use mir.Val.{bool_byte}
 use Rattle.std.specs.List.{AllByRecursion}
 use Rattle.std.proofs.ByRecursion.{All-take, All-drop}
 use Rattle.kinds.specs.Kinds.{KeyKind, ValueKind}
+use Rattle.std.proofs.lemmas.List.{length-take-le}
+use Rattle.std.proofs.lemmas.Bool.Decides.{same_from_decides}
+use Rattle.byte_rows.specs.Rows.{same}
 use Rattle.byte_rows.proofs.Orders.{same_decides}
 use Rattle.model.specs.Maps.{Setting, Map, look, same_found, same_map}
 use Rattle.model.specs.Sharing.{Part, Shared, entry_from, sum}
@@ -11,46 +14,32 @@ use Rattle.model.proofs.Maps.Found.{found_tells}
 use Rattle.model.proofs.Maps.Order.{Reads}
 use Rattle.model.proofs.Marks.Members.{all_from_mem}
 use Rattle.tables.specs.declared.cells.EntryCell.{EntryCell}
+use Rattle.tables.specs.declared.cells.EntryId.{EntryId}
 use Rattle.plans.specs.Plans.{edited, capped, Told}
-use Rattle.plans.proofs.Digits.{one_test}
 use Rattle.plans.proofs.Edits.{sound_edited}
 use Rattle.plans.proofs.Leaves.{told_leaf}
 use Rattle.plans.proofs.Twice.{entry_twice}
 use Rattle.branches.specs.declared.branch.Branch.{Branch}
 use Rattle.branches.specs.States.{Tables}
-use Rattle.branches.specs.Branches.{SettingRead}
+use Rattle.branches.specs.Branches.{SomeEntry, SettingRead}
 use Rattle.branches.proofs.Settings.{lone, edited_same, look_mem, entry_old, entry_new}
 use Rattle.branches.proofs.Picks.{sum_append}
 use Rattle.edits.specs.declared.estimate.Estimate.{Estimate}
-use Rattle.edits.specs.declared.row.Row.{Row}
 use Rattle.edits.specs.Sets.{value_bytes, Seen, tally}
-use Rattle.edits.specs.Rowing.{NodeIn, RowOf, setting_held, row_settings, SomeRow, Placed, Found, value_there, RowEstimate}
+use Rattle.edits.specs.Rowing.{NodeIn, entries_of, setting_held, setting_at, row_settings, Placed, Split, value_held, RowEstimate}
 use Rattle.edits.proofs.Places.{no_setting, setting_in}
-use Rattle.edits.proofs.RowParts.{node_in, same_settings, settings_count, some_row, placed_in, edited_place, edited_long, found_at, look_place}
+use Rattle.edits.proofs.RowParts.{node_in, same_settings, settings_count, some_entries, placed_in, edited_place, edited_long, found_at, look_place}
 use Rattle.edits.proofs.RowSets.{value_read}
 
 -- ---- the value that is there
 
-module _ {X Y : Type 0} (K : KeyKind) (kb : X → List ℕ) (vb : Y → List ℕ) (es : List (EntryCell X Y)) (r : Row) (at : ℕ) (found : Bool) (value : Option Y) where
-  pub same_none : value ≡ None → not found ≡ same_found (value_there kb vb es r at found) (value_bytes vb value)
-  same_none e = go found ∙ ap (λ (v : Option Y). same_found (value_there kb vb es r at found) (value_bytes vb v)) (sym e)
-    where
-      go : (f : Bool) → not f ≡ same_found (value_there kb vb es r at f) None
-      go true = refl
-      go false = refl
-
-  pub same_missing : found ≡ false → (new : Y) → value ≡ Some new → false ≡ same_found (value_there kb vb es r at found) (value_bytes vb value)
-  same_missing f new e =
-      ap (λ (t : Bool). same_found (value_there kb vb es r at t) (Some (vb new))) (sym f) ∙ ap (λ (v : Option Y). same_found (value_there kb vb es r at found) (value_bytes vb v)) (sym e)
-
-  pub same_there :
-      found ≡ true → (new : Y) → value ≡ Some new → (key : X) (old : Y) → SettingRead K kb vb es (get_or r.slots at 0) key old → (t : Bool) → Decides t (vb old ≡ vb new)
-      → t ≡ same_found (value_there kb vb es r at found) (value_bytes vb value)
-  same_there f new e key old read t d =
-      one_test t (same_found (Some (vb old)) (Some (vb new))) (λ h. (same_decides (vb old) (vb new)).1 (d.0 h)) (λ h. d.1 ((same_decides (vb old) (vb new)).0 h))
-      ∙ ap (λ (s : Setting). same_found (Some s.value) (Some (vb new))) (sym (ap (setting_held kb vb) read.held))
-      ∙ ap (λ (b : Bool). same_found (value_there kb vb es r at b) (Some (vb new))) (sym f)
-      ∙ ap (λ (v : Option Y). same_found (value_there kb vb es r at found) (value_bytes vb v)) (sym e)
+pub same_both :
+    {X Y : Type 0} (K : KeyKind) (kb : X → List ℕ) (vb : Y → List ℕ) (es : List (EntryCell X Y)) (found : Option EntryId) (value : Option Y) (id : EntryId) → found ≡ Some id → (new : Y) → value ≡ Some new
+    → (key : X) (old : Y) → SettingRead K kb vb es id.0 key old → (t : Bool) → Decides t (vb old ≡ vb new) → t ≡ same_found (value_held kb vb es found) (value_bytes vb value)
+same_both {Y = Y} K kb vb es found value id f new e key old read t d =
+    same_from_decides t (same (vb old) (vb new)) d (same_decides (vb old) (vb new))
+    ∙ ap (λ (s : Setting). same_found (Some s.value) (Some (vb new))) (sym (ap (setting_held kb vb) read.held))
+    ∙ ap₂ (λ (o : Option EntryId) (v : Option Y). same_found (value_held kb vb es o) (value_bytes vb v)) (sym f) (sym e)
 
 -- ---- new entries
 
@@ -75,7 +64,7 @@ lone_count : {Y : Type 0} (k : List ℕ) (vb : Y → List ℕ) (value : Option Y
 lone_count k vb (Some v) = refl
 lone_count k vb None = refl
 
-pub byte_is : (b : Bool) → bool_byte b ≡ cond b 1 0
+byte_is : (b : Bool) → bool_byte b ≡ cond b 1 0
 byte_is true = refl
 byte_is false = refl
 
@@ -109,31 +98,48 @@ module _ {X Y : Type 0} (K : KeyKind) (V : ValueKind) (kb : X → List ℕ) (vb 
   reads : Reads V x
   reads = value_read V x q.value_reads
 
-  module _ (r : Row) (W : RowOf T.nodes b r) where
-    pub seen_row : SomeRow K kb vb T.entries r
-    seen_row = some_row K kb vb T q.notes q.roots q.in_hand q.sits q.prefix deepest q.source b q.is r W
+  module _ (xs : List ℕ) (row : xs ≡ entries_of T.nodes b) where
+    pub seen_entries : All (SomeEntry K kb vb T.entries) xs
+    seen_entries = some_entries K kb vb T q.notes q.roots q.in_hand q.sits q.prefix deepest q.source b q.is xs row
 
-    counted : length old ≡ r.count
-    counted = settings_count K kb vb T q.notes q.roots q.in_hand q.sits q.prefix deepest q.source b q.is r W
+    counted : length old ≡ length xs
+    counted = settings_count K kb vb T q.notes q.roots q.in_hand q.sits q.prefix deepest q.source b q.is xs row
 
-    cells : row_settings kb vb T.entries r ≡ old
-    cells = same_settings K kb vb T q.notes q.roots q.in_hand q.sits q.prefix deepest q.source b q.is r W
+    cells : row_settings kb vb T.entries xs ≡ old
+    cells = same_settings K kb vb T q.notes q.roots q.in_hand q.sits q.prefix deepest q.source b q.is xs row
 
-    module _ (at : ℕ) (found : Bool) (F : Found K kb vb T.entries r (kb key) at found) where
-      placed : Placed K old k at found
-      placed = placed_in K kb vb T q.notes q.roots q.in_hand q.sits q.prefix deepest q.source b q.is r W q.sound.rises k at found F
+    module _ (ys : List ℕ) (own : Option EntryId) (zs : List ℕ) (F : Split K kb vb T.entries xs (kb key) ys own zs) where
+      abbrev at : ℕ
+      at = F.at
 
-      pub seen_inside : at + cond found 1 0 ≤ r.count
-      seen_inside = omega (arith, placed.inside, counted)
+      abbrev found : Bool
+      found = is_some own
 
-      there : found_at old at found ≡ value_there kb vb T.entries r at found
-      there = go found seen_inside
+      placed : Placed K old k F.at (is_some own)
+      placed = placed_in K kb vb T q.notes q.roots q.in_hand q.sits q.prefix deepest q.source b q.is xs row q.sound.rises k ys own zs F
+
+      past : F.at + cond (is_some own) 1 0 ≤ length xs
+      past = omega (arith, placed.inside, counted)
+
+      pub seen_own : IfSome own (λ id. SomeEntry K kb vb T.entries id.0)
+      seen_own = go own F.own_is past
         where
-          go : (f : Bool) → at + cond f 1 0 ≤ r.count → found_at old at f ≡ value_there kb vb T.entries r at f
-          go false h = refl
-          go true h =
-              ap (λ (m : Map). Some (get_or m at no_setting).value) (sym cells)
-              ∙ ap (λ (s : Setting). Some s.value) (setting_in kb vb T.entries r W.slots W.few at (omega arith))
+          go : (o : Option EntryId) → IfSome o (λ id. id.0 ≡ get_or xs F.at 0) → F.at + cond (is_some o) 1 0 ≤ length xs → IfSome o (λ id. SomeEntry K kb vb T.entries id.0)
+          go None w h = tt
+          go (Some id) w h = subst (SomeEntry K kb vb T.entries) (sym w) (seen_entries F.at 0 (omega arith))
+
+      there : found_at old F.at (is_some own) ≡ value_held kb vb T.entries own
+      there = go own F.own_is past
+        where
+          go : (o : Option EntryId) → IfSome o (λ id. id.0 ≡ get_or xs F.at 0) → F.at + cond (is_some o) 1 0 ≤ length xs → found_at old F.at (is_some o) ≡ value_held kb vb T.entries o
+          go None w h = refl
+          go (Some id) w h =
+              ap (λ (m : Map). Some (get_or m F.at no_setting).value) (sym cells)
+              ∙ ap (λ (s : Setting). Some s.value) (setting_in kb vb T.entries xs F.at (omega arith) ∙ ap (setting_at kb vb T.entries) (sym w))
+
+      row_long : length ys + length zs + cond (is_some own) 1 0 ≡ length xs
+      row_long =
+          omega (arith, ap length F.before_are, length-take-le F.at xs (omega (arith, past)), ap length F.after_are, length-drop (F.at + cond (is_some own) 1 0) xs, past)
 
       new_entries : (n : ℕ) → (sum (entry_from n (q.source ∷ (q.source ∷ []))) new).new_entries ≡ cond (is_some value) (cond (same_found (look old k) x) 0 1) 0
       new_entries n =
@@ -148,20 +154,18 @@ module _ {X Y : Type 0} (K : KeyKind) (V : ValueKind) (kb : X → List ℕ) (vb 
 
       -- the estimate is the account's
       pub seen_told :
-          (same : Bool) → same ≡ same_found (value_there kb vb T.entries r at found) (value_bytes vb value) → (some : Bool) → some ≡ is_some value
-          → (u v : ℕ) → u ≡ bool_byte found → v ≡ bool_byte some → (c : Estimate) → RowEstimate (r.count - u + v) some same c
+          (same : Bool) → same ≡ same_found (value_held kb vb T.entries own) (value_bytes vb value) → (some : Bool) → some ≡ is_some value
+          → (v : ℕ) → v ≡ bool_byte some → (c : Estimate) → RowEstimate (length ys + v + length zs) some same c
           → (n : ℕ) → Told K n 0 q.prefix q.source q.source new (tally c)
-      seen_told same same_is some some_is u v u_is v_is c R n =
-          let count : ℕ = r.count - u + v in
+      seen_told same same_is some some_is v v_is c R n =
+          let count : ℕ = length ys + v + length zs in
           let long : count ≡ length new =
           omega (
             arith,
             edited_long K V old k at q.sound q.key_reads x reads found placed,
             counted,
-            seen_inside,
-            u_is,
+            row_long,
             v_is,
-            byte_is found,
             byte_is some,
             lone_count k vb value,
             ap {B = ℕ} (λ (t : Bool). cond t 1 0) some_is,

@@ -1,8 +1,8 @@
 -- The settings of a row's result in hand, as they are taken up one after another. Assumes nothing.
-use Rattle.std.proofs.Common.{◌≡◌, ℕ, ◌+◌, ◌-◌, ◌<◌, ◌≤◌, List, [], ◌∷◌, ◌++◌, map, take, drop, Some, None, Option, sym, refl, ap, ◌∙◌, subst, inl, inr, arith}
+use Rattle.std.proofs.Common.{◌≡◌, ℕ, ◌<◌, List, [], ◌∷◌, ◌++◌, map, take, drop, Some, None, Option, sym, refl, ap, ◌∙◌, subst, inl, inr, arith}
 use mathlib.Core.List.Memᴰ
 use Rattle.std.specs.List.{AllByRecursion}
-use Rattle.std.proofs.lemmas.List.{append-nil, take-map, drop-map, take-take, drop-take}
+use Rattle.std.proofs.lemmas.List.{append-nil, take-map, drop-map}
 use Rattle.std.proofs.lemmas.Bool.{cases_eq}
 use Rattle.std.proofs.ByRecursion.{All-take, All-drop}
 use Rattle.kinds.specs.Kinds.{KeyKind}
@@ -27,9 +27,8 @@ use Rattle.branches.proofs.Under.{label_key}
 use Rattle.branches.proofs.Bundles.{bundled_none}
 use Rattle.branches.proofs.Hands.{hand_none, hand_more}
 use Rattle.branches.proofs.Rows.{row_more}
-use Rattle.edits.specs.declared.row.Row.{Row}
 use Rattle.edits.specs.Sets.{value_bytes}
-use Rattle.edits.specs.Rowing.{in_row, row_range, Rowful, entries_in, beside, EntriesKept, Added}
+use Rattle.edits.specs.Rowing.{Rowful, entries_in, beside, EntriesKept, Added}
 use Rattle.edits.proofs.RowParts.{Says}
 
 -- what is in hand is what the handful says
@@ -61,64 +60,64 @@ module _ {X Y : Type 0} (K : KeyKind) (kb : X → List ℕ) (vb : Y → List ℕ
 
   -- ---- entries of the source
 
-  module _ (S : Sits K kb vb T N R E) (r : Row) (W : Says T N (in_row r) a) (rises : Rises K a.settings) where
+  module _ (S : Sits K kb vb T N R E) (xs : List ℕ) (W : Says T N xs a) (rises : Rises K a.settings) where
     abbrev setting : ℕ → Setting
     setting e = (N.entry e).setting
 
     abbrev label : ℕ → Marked
     label e = (N.entry e).label
 
-    range_in : (from to : ℕ) → from ≤ to → to ≤ r.count → row_range r from to ≡ take (to - from) (drop from (in_row r))
-    range_in from to l h =
-        let c : from + (r.count - from) ≡ r.count = omega arith in
-        sym (ap (take (to - from)) (ap (λ (i : ℕ). drop from (take i r.slots)) (sym c) ∙ drop-take from (r.count - from) r.slots)
-        ∙ take-take (to - from) (r.count - from) (drop from r.slots) (omega arith))
+    themselves : AllByRecursion (λ e. Mem e xs) xs
+    themselves = all_from_mem (λ e. Mem e xs) xs (λ e i. i)
 
-    range_mem : (from to : ℕ) → from ≤ to → to ≤ r.count → AllByRecursion (λ e. Mem e (in_row r)) (row_range r from to)
-    range_mem from to l h =
-        subst (λ (ys : List ℕ). AllByRecursion (λ e. Mem e (in_row r)) ys) (sym (range_in from to l h))
-        (All-take (λ e. Mem e (in_row r)) (to - from) (drop from (in_row r)) (All-drop (λ e. Mem e (in_row r)) from (in_row r) (all_from_mem (λ e. Mem e (in_row r)) (in_row r) (λ e i. i))))
+    labelled : AllByRecursion (λ e. (label e).what ≡ (setting e).key) xs
+    labelled = all_from_mem (λ e. (label e).what ≡ (setting e).key) xs (λ e i. label_key K kb vb T N R E S e (W.held e (occ_mem xs e i)))
 
-    pub range_settings : (from to : ℕ) → from ≤ to → to ≤ r.count → map setting (row_range r from to) ≡ take (to - from) (drop from a.settings)
-    range_settings from to l h =
-        ap (map setting) (range_in from to l h) ∙ sym (take-map setting (to - from) (drop from (in_row r))) ∙ ap (take (to - from)) (sym (drop-map setting from (in_row r)))
-        ∙ ap (λ (s : Map). take (to - from) (drop from s)) W.settings
+    -- some of the source's entries more
+    module _ (ys : List ℕ) (among : AllByRecursion (λ e. Mem e xs) ys) where
+      some_held : (e : ℕ) → 0 < occ e ys → 0 < (entry_cell T.entries e).holders
+      some_held e q = W.held e (occ_mem xs e (all_mem (λ e. Mem e xs) ys e among (mem_occ ys e q)))
 
-    labelled : AllByRecursion (λ e. (label e).what ≡ (setting e).key) (in_row r)
-    labelled = all_from_mem (λ e. (label e).what ≡ (setting e).key) (in_row r) (λ e i. label_key K kb vb T N R E S e (W.held e (occ_mem (in_row r) e i)))
+      shares : sum (entry_from n (a ∷ [])) (map setting ys) ≡ record { nodes = []; entries = map label ys; new_nodes = 0; new_entries = 0 }
+      shares = entries_listed K label setting n a [] xs W.labels W.settings labelled rises ys among
 
-    module _ (from to : ℕ) (low : from ≤ to) (high : to ≤ r.count) where
-      range_held : (e : ℕ) → 0 < occ e (row_range r from to) → 0 < (entry_cell T.entries e).holders
-      range_held e q = W.held e (occ_mem (in_row r) e (all_mem (λ e. Mem e (in_row r)) (row_range r from to) e (range_mem from to low high) (mem_occ (row_range r from to) e q)))
-
-      range_shares : sum (entry_from n (a ∷ [])) (map setting (row_range r from to)) ≡ record { nodes = []; entries = map label (row_range r from to); new_nodes = 0; new_entries = 0 }
-      range_shares = entries_listed K label setting n a [] (in_row r) W.labels W.settings labelled rises (row_range r from to) (range_mem from to low high)
-
-      -- a range of the source's entries more
-      pub got_range :
-          (Q : List ℕ → Type 0) (own : Map) (hand : Handful) (U : Tables X Y) (G : Got Q own hand U) (next : Handful) (fs : List (EntryCell X Y)) (g t : ℕ)
-          → EntriesKept K kb vb U.entries U.entry_free U.entry_spare (row_range r from to) fs g t → Rowful next (entries_in hand ++ row_range r from to)
-          → Got Q (own ++ take (to - from) (drop from a.settings)) next (beside U fs g t)
-      got_range Q own hand U G next fs g t kept up =
-          let xs = row_range r from to in
+      got_some :
+          (m' : Map) → map setting ys ≡ m'
+          → (Q : List ℕ → Type 0) (own : Map) (hand : Handful) (U : Tables X Y) (G : Got Q own hand U) (next : Handful) (fs : List (EntryCell X Y)) (g t : ℕ)
+          → EntriesKept K kb vb U.entries U.entry_free U.entry_spare ys fs g t → Rowful next (entries_in hand ++ ys) → Got Q (own ++ m') next (beside U fs g t)
+      got_some m' is Q own hand U G next fs g t kept up =
           let M = G.in_hand.notes in
-          let same : (e : ℕ) → 0 < occ e xs → M.entry e ≡ N.entry e = λ e q. G.in_hand.grown.entry_kept e (range_held e q) in
-          let shares = range_shares in
+          let same : (e : ℕ) → 0 < occ e ys → M.entry e ≡ N.entry e = λ e q. G.in_hand.grown.entry_kept e (some_held e q) in
           record {
-            ids = G.ids ++ xs;
-            rowful = subst (λ (l : List ℕ). Rowful next (l ++ xs)) (rowful_in hand G.ids G.rowful) up;
+            ids = G.ids ++ ys;
+            rowful = subst (λ (l : List ℕ). Rowful next (l ++ ys)) (rowful_in hand G.ids G.rowful) up;
             in_hand =
-                hand_more K kb vb n 0 p (a ∷ []) m T N R E No Q own [] G.ids [] U G.in_hand No No No Q (take (to - from) (drop from a.settings)) [] xs [] G.in_hand.kid (beside U fs g t) M
+                hand_more K kb vb n 0 p (a ∷ []) m T N R E No Q own [] G.ids [] U G.in_hand No No No Q m' [] ys [] G.in_hand.kid (beside U fs g t) M
                 (kept.grown U M n) (λ q z. z) (λ q z. z) (λ k z. z) (λ k z. absurd z)
-                (sits_same K kb vb (beside U fs g t) M R R (xs ++ (G.ids ++ E)) ((G.ids ++ xs) ++ E) (λ i. refl)
-                (λ i. omega (arith, occ_append i xs (G.ids ++ E), occ_append i G.ids E, occ_append i (G.ids ++ xs) E, occ_append i G.ids xs)) (kept.sits U M R (G.ids ++ E) G.in_hand.sits))
+                (sits_same K kb vb (beside U fs g t) M R R (ys ++ (G.ids ++ E)) ((G.ids ++ ys) ++ E) (λ i. refl)
+                (λ i. omega (arith, occ_append i ys (G.ids ++ E), occ_append i G.ids E, occ_append i (G.ids ++ ys) E, occ_append i G.ids ys)) (kept.sits U M R (G.ids ++ E) G.in_hand.sits))
                 (λ g q. refl)
-                (map_same (λ e. (M.entry e).setting) setting xs (λ e q. ap (λ (b : EntryNote). b.setting) (same e q)) ∙ range_settings from to low high)
-                (map_same (λ e. (M.entry e).label) label xs (λ e q. ap (λ (b : EntryNote). b.label) (same e q)) ∙ ap (λ (s : Shared). s.entries) (sym shares)
-                ∙ ap (λ (l : Map). (sum (entry_from n (a ∷ [])) l).entries) (range_settings from to low high))
+                (map_same (λ e. (M.entry e).setting) setting ys (λ e q. ap (λ (b : EntryNote). b.setting) (same e q)) ∙ is)
+                (map_same (λ e. (M.entry e).label) label ys (λ e q. ap (λ (b : EntryNote). b.label) (same e q)) ∙ ap (λ (s : Shared). s.entries) (sym shares)
+                ∙ ap (λ (l : Map). (sum (entry_from n (a ∷ [])) l).entries) is)
                 refl (λ g q. absurd (omega (arith, occ_nil g))) (omega arith)
-                (omega (arith, kept.spare, ap (λ (s : Shared). s.new_entries) shares, ap (λ (l : Map). (sum (entry_from n (a ∷ [])) l).new_entries) (range_settings from to low high)));
+                (omega (arith, kept.spare, ap (λ (s : Shared). s.new_entries) shares, ap (λ (l : Map). (sum (entry_from n (a ∷ [])) l).new_entries) is));
           }
+
+    module _ (j : ℕ) (ys : List ℕ) where
+      pub got_before : ys ≡ take j xs
+          → (Q : List ℕ → Type 0) (own : Map) (hand : Handful) (U : Tables X Y) (G : Got Q own hand U) (next : Handful) (fs : List (EntryCell X Y)) (g t : ℕ)
+          → EntriesKept K kb vb U.entries U.entry_free U.entry_spare ys fs g t → Rowful next (entries_in hand ++ ys) → Got Q (own ++ take j a.settings) next (beside U fs g t)
+      got_before e =
+          got_some ys (subst (AllByRecursion (λ e. Mem e xs)) (sym e) (All-take (λ e. Mem e xs) j xs themselves))
+          (take j a.settings) (ap (map setting) e ∙ sym (take-map setting j xs) ∙ ap (take j) W.settings)
+
+      pub got_after : ys ≡ drop j xs
+          → (Q : List ℕ → Type 0) (own : Map) (hand : Handful) (U : Tables X Y) (G : Got Q own hand U) (next : Handful) (fs : List (EntryCell X Y)) (g t : ℕ)
+          → EntriesKept K kb vb U.entries U.entry_free U.entry_spare ys fs g t → Rowful next (entries_in hand ++ ys) → Got Q (own ++ drop j a.settings) next (beside U fs g t)
+      got_after e =
+          got_some ys (subst (AllByRecursion (λ e. Mem e xs)) (sym e) (All-drop (λ e. Mem e xs) j xs themselves))
+          (drop j a.settings) (ap (map setting) e ∙ sym (drop-map setting j xs) ∙ ap (drop j) W.settings)
 
   -- ---- a new entry
 

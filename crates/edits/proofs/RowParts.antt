@@ -1,11 +1,13 @@
 -- What a row says of the part that it is of, and where a key is in it. Assumes nothing.
-use Rattle.std.proofs.Common.{◌≡◌, ℕ, ◌+◌, ◌<◌, Bool, true, false, cond, List, [], ◌∷◌, ◌++◌, map, length, get_or, take, drop, Some, None, Option, sym, refl, ap, ◌∙◌, subst, inl, inr, arith, length-drop}
-use Rattle.std.proofs.lemmas.List.{length-map, length-take-le, take-append-drop, drop_more, get_or-take}
+use Rattle.std.proofs.Common.{◌≡◌, ℕ, ◌+◌, ◌<◌, Bool, true, false, cond, List, [], ◌∷◌, ◌++◌, map, length, get_or, take, drop, is_some, Some, None, All, Option, sym, refl, ap, ◌∙◌, subst, inl, inr, arith, length-drop}
+use Rattle.std.proofs.lemmas.List.{length-map, length-take-le, take-append-drop, drop_more}
+use Rattle.std.proofs.lemmas.List.Elements.{All-from_get_or}
 use Rattle.std.proofs.lemmas.Bool.{cases_eq}
 use Rattle.kinds.specs.Kinds.{KeyKind, ValueKind}
 use Rattle.model.specs.Maps.{Map, look, Rises, Sound}
 use Rattle.model.specs.Sharing.{Part}
 use Rattle.model.proofs.Maps.Order.{Reads}
+use Rattle.tables.specs.declared.cells.EntryId.{EntryId}
 use Rattle.tables.specs.Chains.{occ}
 use Rattle.tables.specs.Cells.{entry_cell}
 use Rattle.tables.proofs.Occurrences.{occ_nil, occ_rest, occ_at}
@@ -14,12 +16,11 @@ use Rattle.plans.specs.Plans.{edited}
 use Rattle.branches.specs.declared.branch.Branch.{Branch}
 use Rattle.branches.specs.declared.branch.Branch.TheVariants.{Nothing, Entry, Child}
 use Rattle.branches.specs.States.{Tables, Notes, Sits}
-use Rattle.branches.specs.Branches.{Is}
+use Rattle.branches.specs.Branches.{Is, SomeEntry}
 use Rattle.branches.proofs.Settings.{lone, length_lone, edited_split, edited_over, look_none, look_one}
 use Rattle.branches.proofs.Ends.{deep_settings, deep_entries, deep_held}
-use Rattle.edits.specs.declared.row.Row.{Row}
-use Rattle.edits.specs.Rowing.{in_row, NodeIn, entries_of, RowOf, setting_held, setting_at, row_settings, SomeRow, Placed, Found}
-use Rattle.edits.proofs.Places.{no_setting, row_long}
+use Rattle.edits.specs.Rowing.{NodeIn, entries_of, setting_held, setting_at, row_settings, Placed, Split}
+use Rattle.edits.proofs.Places.{no_setting}
 
 -- the entries xs are those of a part, in their order
 pub record Says {X Y : Type 0} (T : Tables X Y) (N : Notes) (xs : List ℕ) (a : Part) : Type 0 where
@@ -50,33 +51,28 @@ module _ {X Y : Type 0} (K : KeyKind) (kb : X → List ℕ) (vb : Y → List ℕ
   node_in (Entry i) is = tt
   node_in (Child i) is = is.0.held
 
-  module _ (b : Branch) (is : Is T N b 0 p a) (r : Row) (W : RowOf T.nodes b r) where
-    pub row_says : Says T N (in_row r) a
-    row_says = subst (λ (l : List ℕ). Says T N l a) (sym W.is) (branch_says b is)
+  module _ (b : Branch) (is : Is T N b 0 p a) (xs : List ℕ) (row : xs ≡ entries_of T.nodes b) where
+    pub row_says : Says T N xs a
+    row_says = subst (λ (l : List ℕ). Says T N l a) (sym row) (branch_says b is)
 
-    pub in_row_long : length (in_row r) ≡ r.count
-    in_row_long = row_long r W.slots W.few
+    pub settings_count : length a.settings ≡ length xs
+    settings_count = ap length (sym row_says.settings) ∙ length-map xs (λ e. (N.entry e).setting)
 
-    pub settings_count : length a.settings ≡ r.count
-    settings_count = ap length (sym row_says.settings) ∙ length-map (in_row r) (λ e. (N.entry e).setting) ∙ in_row_long
-
-    pub slot_held : (j : ℕ) → j < r.count → 0 < (entry_cell T.entries (get_or r.slots j 0)).holders
-    slot_held j h =
-        subst (λ (e : ℕ). 0 < (entry_cell T.entries e).holders) (get_or-take r.count r.slots j 0 h)
-        (row_says.held (get_or (in_row r) j 0) (occ_at (in_row r) j (omega (arith, in_row_long))))
+    pub row_held : All (λ e. 0 < (entry_cell T.entries e).holders) xs
+    row_held = All-from_get_or (λ e. 0 < (entry_cell T.entries e).holders) xs 0 (λ j h. row_says.held (get_or xs j 0) (occ_at xs j h))
 
     -- by its cells
-    pub same_settings : row_settings kb vb T.entries r ≡ a.settings
-    same_settings = map_same (setting_at kb vb T.entries) (λ e. (N.entry e).setting) (in_row r) cells ∙ row_says.settings
+    pub same_settings : row_settings kb vb T.entries xs ≡ a.settings
+    same_settings = map_same (setting_at kb vb T.entries) (λ e. (N.entry e).setting) xs cells ∙ row_says.settings
       where
-        cells : (e : ℕ) → 0 < occ e (in_row r) → setting_at kb vb T.entries e ≡ (N.entry e).setting
+        cells : (e : ℕ) → 0 < occ e xs → setting_at kb vb T.entries e ≡ (N.entry e).setting
         cells e q = let F = S.means.entry_fits e (row_says.held e q) in ap (setting_held kb vb) F.holds ∙ sym F.setting_is
 
-    pub some_row : SomeRow K kb vb T.entries r
-    some_row = record { tables = T; notes = N; roots = R; in_hand = E; sits = S; entries_are = refl; slots = W.slots; few = W.few; held = slot_held }
+    pub some_entries : All (SomeEntry K kb vb T.entries) xs
+    some_entries = λ j d h. record { tables = T; notes = N; roots = R; in_hand = E; sits = S; entries_are = refl; held = row_held j d h }
 
-    pub placed_in : Rises K a.settings → (k : List ℕ) (at : ℕ) (found : Bool) → Found K kb vb T.entries r k at found → Placed K a.settings k at found
-    placed_in up k at found F = subst (λ (m : Map). Placed K m k at found) same_settings (F.placed (subst (Rises K) (sym same_settings) up))
+    pub placed_in : Rises K a.settings → (k ys : List ℕ) (own : Option EntryId) (zs : List ℕ) (F : Split K kb vb T.entries xs k ys own zs) → Placed K a.settings k F.at (is_some own)
+    placed_in up k ys own zs F = subst (λ (m : Map). Placed K m k F.at (is_some own)) same_settings (F.placed (subst (Rises K) (sym same_settings) up))
 
 -- ---- a key in its place
 

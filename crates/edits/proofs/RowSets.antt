@@ -1,7 +1,7 @@
 -- One key of a row is set: what each step may take for granted, and what is built. Assumes nothing.
-use Rattle.std.proofs.Common.{◌≡◌, ℕ, ◌+◌, ◌-◌, ◌<◌, ◌≤◌, Bool, true, false, cond, List, [], ◌∷◌, ◌++◌, length, get_or, take, drop, is_some, Some, None, Option, sym, refl, ap, ◌∙◌, subst, append_assoc, arith, length-append, length-drop}
-use mir.Val.{bool_byte}
-use Rattle.std.proofs.lemmas.List.{length-map, length-take-le, take_all}
+use Rattle.std.proofs.Common.{◌≡◌, ℕ, ◌+◌, ◌<◌, ◌≤◌, true, cond, List, [], ◌∷◌, ◌++◌, length, get_or, take, drop, is_some, Some, None, All, Option, sym, refl, ap, ◌∙◌, subst, append_assoc, arith, length-append, length-drop}
+use Rattle.std.proofs.lemmas.List.{length-map, length-take-le}
+use Rattle.std.proofs.lemmas.List.Elements.{All-take, All-drop}
 use Rattle.std.proofs.lemmas.Bool.{cond-false, both_ways}
 use Rattle.kinds.specs.Kinds.{KeyKind, ValueKind}
 use Rattle.model.specs.Maps.{Map, look, same_found, same_map}
@@ -10,28 +10,24 @@ use Rattle.model.proofs.Maps.Found.{found_self}
 use Rattle.model.proofs.Maps.Order.{Reads}
 use Rattle.tables.specs.declared.cells.NodeCell.{NodeCell}
 use Rattle.tables.specs.declared.cells.EntryCell.{EntryCell}
+use Rattle.tables.specs.declared.cells.EntryId.{EntryId}
 use Rattle.tables.specs.Cells.{entry_cell}
 use Rattle.plans.specs.Plans.{edited, portion}
 use Rattle.plans.proofs.Crowds.{crowd_deepest}
 use Rattle.branches.specs.declared.branch.Branch.{Branch}
 use Rattle.branches.specs.declared.handful.Handful.{Handful}
 use Rattle.branches.specs.States.{Tables}
-use Rattle.branches.specs.Branches.{Built}
+use Rattle.branches.specs.Branches.{Built, SomeEntry}
 use Rattle.branches.specs.Handfuls.{nothing_in_hand, Assembling, Assembled}
 use Rattle.branches.proofs.Settings.{lone, entry_new, edited_same}
 use Rattle.branches.proofs.Picks.{sum_append}
 use Rattle.branches.proofs.Bundles.{bundled_none}
-use Rattle.edits.specs.declared.row.Row.{Row}
 use Rattle.edits.specs.Sets.{value_bytes, ValueReads, Ready}
-use Rattle.edits.specs.Rowing.{in_row, NodeIn, RowOf, row_range, SomeRow, Placed, Found, Rowful, entries_in, beside, Keeping, EntriesKept, Adding, Added}
+use Rattle.edits.specs.Rowing.{NodeIn, entries_of, Placed, Split, Rowful, entries_in, beside, Keeping, EntriesKept, Adding, Added}
 use Rattle.edits.proofs.TakenUp.{rowful_count}
-use Rattle.edits.proofs.RowParts.{Says, node_in, row_says, settings_count, slot_held, some_row, placed_in, edited_place, edited_long}
-use Rattle.edits.proofs.RowHands.{No, Got, got_none, got_range, got_new}
+use Rattle.edits.proofs.RowParts.{Says, node_in, row_says, settings_count, row_held, some_entries, placed_in, edited_place, edited_long}
+use Rattle.edits.proofs.RowHands.{No, Got, got_none, got_before, got_after, got_new}
 use Rattle.edits.proofs.RowEnds.{above, leaf_entries, got_assembles, got_built}
-
-pub after_byte : (at byte : ℕ) (found : Bool) → byte ≡ bool_byte found → at + byte ≡ at + cond found 1 0
-after_byte at byte true e = ap (λ (i : ℕ). at + i) e
-after_byte at byte false e = ap (λ (i : ℕ). at + i) e
 
 pub value_read : (V : ValueKind) (x : Option (List ℕ)) → ValueReads V x → Reads V x
 value_read V (Some v) r = r
@@ -80,62 +76,64 @@ module _ {X Y : Type 0} (K : KeyKind) (V : ValueKind) (kb : X → List ℕ) (vb 
 
   -- ---- read
 
-  module _ (r : Row) (W : RowOf T.nodes b r) where
-    pub set_some_row : SomeRow K kb vb T.entries r
-    set_some_row = some_row K kb vb T q.notes q.roots q.in_hand q.sits q.prefix deepest q.source b q.is r W
+  module _ (xs : List ℕ) (row : xs ≡ entries_of T.nodes b) where
+    pub set_entries : All (SomeEntry K kb vb T.entries) xs
+    set_entries = some_entries K kb vb T q.notes q.roots q.in_hand q.sits q.prefix deepest q.source b q.is xs row
 
-    held : (j : ℕ) → j < r.count → 0 < (entry_cell T.entries (get_or r.slots j 0)).holders
-    held = slot_held K kb vb T q.notes q.roots q.in_hand q.sits q.prefix deepest q.source b q.is r W
+    held : All (λ e. 0 < (entry_cell T.entries e).holders) xs
+    held = row_held K kb vb T q.notes q.roots q.in_hand q.sits q.prefix deepest q.source b q.is xs row
 
-    counted : length old ≡ r.count
-    counted = settings_count K kb vb T q.notes q.roots q.in_hand q.sits q.prefix deepest q.source b q.is r W
+    counted : length old ≡ length xs
+    counted = settings_count K kb vb T q.notes q.roots q.in_hand q.sits q.prefix deepest q.source b q.is xs row
 
-    says : Says T q.notes (in_row r) q.source
-    says = row_says K kb vb T q.notes q.roots q.in_hand q.sits q.prefix deepest q.source b q.is r W
+    says : Says T q.notes xs q.source
+    says = row_says K kb vb T q.notes q.roots q.in_hand q.sits q.prefix deepest q.source b q.is xs row
 
-    module _ (at : ℕ) (found : Bool) (F : Found K kb vb T.entries r (kb key) at found) where
-      placed : Placed K old k at found
-      placed = placed_in K kb vb T q.notes q.roots q.in_hand q.sits q.prefix deepest q.source b q.is r W q.sound.rises k at found F
+    module _ (ys : List ℕ) (own : Option EntryId) (zs : List ℕ) (F : Split K kb vb T.entries xs (kb key) ys own zs) where
+      abbrev at : ℕ
+      at = F.at
 
-      new_is : new ≡ take at old ++ (lone k x ++ drop (at + cond found 1 0) old)
-      new_is = edited_place K V old k at q.sound q.key_reads x reads found placed
+      abbrev past : ℕ
+      past = F.at + cond (is_some own) 1 0
 
-      new_long : length new + cond found 1 0 ≡ r.count + length (lone k x)
-      new_long = edited_long K V old k at q.sound q.key_reads x reads found placed ∙ ap (λ (i : ℕ). i + length (lone k x)) counted
+      placed : Placed K old k F.at (is_some own)
+      placed = placed_in K kb vb T q.notes q.roots q.in_hand q.sits q.prefix deepest q.source b q.is xs row q.sound.rises k ys own zs F
 
-      pub place_inside : at + cond found 1 0 ≤ r.count
-      place_inside = omega (arith, placed.inside, counted)
+      new_is : new ≡ take at old ++ (lone k x ++ drop past old)
+      new_is = edited_place K V old k at q.sound q.key_reads x reads (is_some own) placed
+
+      before_long : length (take at old) ≡ at
+      before_long = length-take-le at old (omega (arith, placed.inside))
+
+      -- how many come before, and after
+      ys_long : length ys ≡ at
+      ys_long = ap length F.before_are ∙ length-take-le at xs (omega (arith, placed.inside, counted))
+
+      new_long : length new ≡ length ys + length (lone k x) + length zs
+      new_long = omega (arith, edited_long K V old k at q.sound q.key_reads x reads (is_some own) placed, counted, placed.inside, ys_long, ap length F.after_are, length-drop past xs)
 
       -- ---- what comes before
 
-      pub set_keeps : (h₀ : Handful) → h₀ ≡ nothing_in_hand → Keeping K kb vb T.entries T.entry_free T.entry_spare r 0 at h₀
-      set_keeps h₀ e = subst (Keeping K kb vb T.entries T.entry_free T.entry_spare r 0 at) (sym e) record {
+      pub set_keeps : (h₀ : Handful) → h₀ ≡ nothing_in_hand → Keeping K kb vb T.entries T.entry_free T.entry_spare ys h₀
+      set_keeps h₀ e = subst (Keeping K kb vb T.entries T.entry_free T.entry_spare ys) (sym e) record {
         tables = T;
         notes = q.notes;
         roots = q.roots;
         in_hand = q.in_hand;
         sits = q.sits;
-        slots = W.slots;
-        order = omega arith;
-        inside = omega (arith, place_inside, W.few);
-        held = λ j l h. held j (omega (arith, place_inside));
-        few_in_hand = omega (arith, q.few_in_hand, place_inside, W.few);
+        held = subst (All (λ e. 0 < (entry_cell T.entries e).holders)) (sym F.before_are) (All-take (λ e. 0 < (entry_cell T.entries e).holders) at xs held);
+        few_in_hand = omega (arith, q.few_in_hand, new_long, few);
         rowful = record { bundled = bundled_none; few = omega arith };
-        room = omega (arith, place_inside, W.few);
+        room = omega (arith, new_long, few);
       }
 
-      module _ (h₀ : Handful) (e₀ : h₀ ≡ nothing_in_hand) (h₁ : Handful) (es₁ : List (EntryCell X Y)) (f₁ s₁ : ℕ) (kept₁ : EntriesKept K kb vb T.entries T.entry_free T.entry_spare (row_range r 0 at) es₁ f₁ s₁)
-          (up₁ : Rowful h₁ (entries_in h₀ ++ row_range r 0 at)) where
+      module _ (h₀ : Handful) (e₀ : h₀ ≡ nothing_in_hand) (h₁ : Handful) (es₁ : List (EntryCell X Y)) (f₁ s₁ : ℕ) (kept₁ : EntriesKept K kb vb T.entries T.entry_free T.entry_spare ys es₁ f₁ s₁)
+          (up₁ : Rowful h₁ (entries_in h₀ ++ ys)) where
         got₁ : Got K kb vb q.call q.prefix q.source new T q.notes q.roots q.in_hand No (take at old) h₁ (beside T es₁ f₁ s₁)
         got₁ =
-            let z : at - 0 ≡ at = omega arith in
-            subst (λ (i : ℕ). Got K kb vb q.call q.prefix q.source new T q.notes q.roots q.in_hand No (take i old) h₁ (beside T es₁ f₁ s₁)) z
-            (got_range K kb vb q.call q.prefix q.source new T q.notes q.roots q.in_hand q.sits r says q.sound.rises 0 at (omega arith) (omega (arith, place_inside))
+            got_before K kb vb q.call q.prefix q.source new T q.notes q.roots q.in_hand q.sits xs says q.sound.rises at ys F.before_are
             No [] nothing_in_hand T (got_none K kb vb q.call q.prefix q.source new T q.notes q.roots q.in_hand q.sits) h₁ es₁ f₁ s₁ kept₁
-            (subst (λ (h : Handful). Rowful h₁ (entries_in h ++ row_range r 0 at)) e₀ up₁))
-
-        before_long : length (take at old) ≡ at
-        before_long = length-take-le at old (omega (arith, placed.inside))
+            (subst (λ (h : Handful). Rowful h₁ (entries_in h ++ ys)) e₀ up₁)
 
         ids₁ : h₁.singles ≡ at
         ids₁ =
@@ -151,8 +149,8 @@ module _ {X Y : Type 0} (K : KeyKind) (V : ValueKind) (kb : X → List ℕ) (vb 
               q.entry_room,
               leaf_entries K q.call q.prefix (q.source ∷ []) new none,
               ap (λ (l : Map). (sum (entry_from q.call (q.source ∷ [])) l).new_entries) new_is,
-              (sum_append (entry_from q.call (q.source ∷ [])) (take at old) (lone k x ++ drop (at + cond found 1 0) old)).1,
-              (sum_append (entry_from q.call (q.source ∷ [])) (lone k x) (drop (at + cond found 1 0) old)).1,
+              (sum_append (entry_from q.call (q.source ∷ [])) (take at old) (lone k x ++ drop past old)).1,
+              (sum_append (entry_from q.call (q.source ∷ [])) (lone k x) (drop past old)).1,
               lone_new q.call q.source k vb value other e,
             )
 
@@ -161,7 +159,7 @@ module _ {X Y : Type 0} (K : KeyKind) (V : ValueKind) (kb : X → List ℕ) (vb 
           heap = (T.nodes, (got₁.ids ++ q.in_hand, got₁.in_hand.sits.entries));
           spare = taken;
           rowful = subst (Rowful h₁) (sym got₁.rowful.bundled.entries_are) got₁.rowful;
-          room = λ e. omega (arith, ids₁, few, new_long, place_inside, lone_some k vb value e);
+          room = λ e. omega (arith, ids₁, ys_long, few, new_long, lone_some k vb value e);
         }
 
         module _ (h₂ : Handful) (es₂ : List (EntryCell X Y)) (f₂ s₂ : ℕ) (added : Added key value h₁ es₁ f₁ s₁ h₂ es₂ f₂ s₂) where
@@ -170,44 +168,36 @@ module _ {X Y : Type 0} (K : KeyKind) (V : ValueKind) (kb : X → List ℕ) (vb 
               got_new K kb vb q.call q.prefix q.source new T q.notes q.roots q.in_hand q.clear key q.led (take at old) h₁ (beside T es₁ f₁ s₁) got₁
               value other h₂ es₂ f₂ s₂ added
 
-          own₂_long : length (take at old ++ lone k x) ≡ at + length (lone k x)
-          own₂_long = length-append (take at old) (lone k x) ∙ ap (λ (i : ℕ). i + length (lone k x)) before_long
+          own₂_long : length (take at old ++ lone k x) ≡ length ys + length (lone k x)
+          own₂_long = length-append (take at old) (lone k x) ∙ ap (λ (i : ℕ). i + length (lone k x)) (before_long ∙ sym ys_long)
 
-          ids₂ : length got₂.ids ≡ at + length (lone k x)
+          ids₂ : length got₂.ids ≡ length ys + length (lone k x)
           ids₂ = sym (length-map got₂.ids (λ e. (got₂.in_hand.notes.entry e).setting)) ∙ ap length got₂.in_hand.settings_are ∙ own₂_long
 
           -- ---- what comes after
 
-          pub set_keeps_rest : (rest : ℕ) → rest ≡ at + cond found 1 0 → Keeping K kb vb es₂ f₂ s₂ r rest r.count h₂
-          set_keeps_rest rest e = subst (λ (i : ℕ). Keeping K kb vb es₂ f₂ s₂ r i r.count h₂) (sym e) record {
+          pub set_keeps_rest : Keeping K kb vb es₂ f₂ s₂ zs h₂
+          set_keeps_rest = record {
             tables = T;
             notes = got₂.in_hand.notes;
             roots = q.roots;
             in_hand = got₂.ids ++ q.in_hand;
             sits = got₂.in_hand.sits;
-            slots = W.slots;
-            order = place_inside;
-            inside = W.few;
-            held = λ j l h. got₂.in_hand.grown.entry_held (get_or r.slots j 0) (held j h);
-            few_in_hand = omega (arith, length-append got₂.ids q.in_hand, ids₂, q.few_in_hand, new_long, few, place_inside);
+            held =
+                subst (All (λ e. 0 < (entry_cell es₂ e).holders)) (sym F.after_are)
+                (All-drop (λ e. 0 < (entry_cell es₂ e).holders) past xs (λ j d h. got₂.in_hand.grown.entry_held (get_or xs j d) (held j d h)));
+            few_in_hand = omega (arith, length-append got₂.ids q.in_hand, ids₂, q.few_in_hand, new_long, few);
             rowful = subst (Rowful h₂) (sym got₂.rowful.bundled.entries_are) got₂.rowful;
-            room = omega (arith, rowful_count h₂ got₂.ids got₂.rowful, ids₂, new_long, few, place_inside);
+            room = omega (arith, rowful_count h₂ got₂.ids got₂.rowful, ids₂, new_long, few);
           }
 
-          module _ (rest : ℕ) (rest_is : rest ≡ at + cond found 1 0) (h₃ : Handful) (es₃ : List (EntryCell X Y)) (f₃ s₃ : ℕ) (kept₃ : EntriesKept K kb vb es₂ f₂ s₂ (row_range r rest r.count) es₃ f₃ s₃)
-              (up₃ : Rowful h₃ (entries_in h₂ ++ row_range r rest r.count)) where
-            own₃ : (take at old ++ lone k x) ++ take (r.count - (at + cond found 1 0)) (drop (at + cond found 1 0) old) ≡ new
-            own₃ =
-                ap (λ (l : Map). (take at old ++ lone k x) ++ l) (take_all (r.count - (at + cond found 1 0)) (drop (at + cond found 1 0) old) (omega (arith, length-drop (at + cond found 1 0) old, counted)))
-                ∙ append_assoc (take at old) (lone k x) (drop (at + cond found 1 0) old) ∙ sym new_is
-
+          module _ (h₃ : Handful) (es₃ : List (EntryCell X Y)) (f₃ s₃ : ℕ) (kept₃ : EntriesKept K kb vb es₂ f₂ s₂ zs es₃ f₃ s₃) (up₃ : Rowful h₃ (entries_in h₂ ++ zs)) where
             got₃ : Got K kb vb q.call q.prefix q.source new T q.notes q.roots q.in_hand (λ y. y ≡ kb key) new h₃ (beside T es₃ f₃ s₃)
             got₃ =
-                subst (λ (l : Map). Got K kb vb q.call q.prefix q.source new T q.notes q.roots q.in_hand (λ y. y ≡ kb key) l h₃ (beside T es₃ f₃ s₃)) own₃
-                (got_range K kb vb q.call q.prefix q.source new T q.notes q.roots q.in_hand q.sits r says q.sound.rises (at + cond found 1 0) r.count place_inside (omega arith)
-                (λ y. y ≡ kb key) (take at old ++ lone k x) h₂ (beside T es₂ f₂ s₂) got₂ h₃ es₃ f₃ s₃
-                (subst (λ (i : ℕ). EntriesKept K kb vb es₂ f₂ s₂ (row_range r i r.count) es₃ f₃ s₃) rest_is kept₃)
-                (subst (λ (i : ℕ). Rowful h₃ (entries_in h₂ ++ row_range r i r.count)) rest_is up₃))
+                subst (λ (l : Map). Got K kb vb q.call q.prefix q.source new T q.notes q.roots q.in_hand (λ y. y ≡ kb key) l h₃ (beside T es₃ f₃ s₃))
+                (append_assoc (take at old) (lone k x) (drop past old) ∙ sym new_is)
+                (got_after K kb vb q.call q.prefix q.source new T q.notes q.roots q.in_hand q.sits xs says q.sound.rises past zs F.after_are
+                (λ y. y ≡ kb key) (take at old ++ lone k x) h₂ (beside T es₂ f₂ s₂) got₂ h₃ es₃ f₃ s₃ kept₃ up₃)
 
             pub set_assembles : Assembling h₃ 0 T.nodes T.free T.spare
             set_assembles = got_assembles K kb vb q.call q.prefix q.source new T q.notes q.roots q.in_hand k q.led none h₃ (beside T es₃ f₃ s₃) got₃ q.room

@@ -1,7 +1,7 @@
 -- A key is set where no other key is, in numbers. Assumes nothing.
-use Rattle.std.proofs.Common.{◌≡◌, ℕ, ◌<◌, Bool, true, false, cond, List, [], ◌∷◌, ◌++◌, length, Some, None, Decides, Option, sym, refl, ap, ◌∙◌, subst, inl, inr, arith}
+use Rattle.std.proofs.Common.{◌≡◌, ℕ, ◌<◌, Bool, true, false, cond, List, [], ◌∷◌, ◌++◌, length, is_some, Some, None, Option, sym, refl, ap, ◌∙◌, subst, inl, inr, arith}
+use mir.Val.{bool_byte}
 use Rattle.std.proofs.lemmas.Bool.{cond-true}
-use Rattle.std.proofs.lemmas.Bool.Decides.{same_from_decides}
 use Rattle.byte_rows.specs.Rows.{same}
 use Rattle.byte_rows.proofs.Orders.{same_decides}
 use Rattle.kinds.specs.Kinds.{KeyKind, ValueKind}
@@ -12,14 +12,15 @@ use Rattle.plans.specs.Plans.{edited, Told, Tally}
 use Rattle.plans.proofs.Leaves.{told_none, told_one}
 use Rattle.plans.proofs.Twice.{entry_twice}
 use Rattle.branches.specs.declared.branch.Branch.{Branch}
-use Rattle.branches.specs.declared.branch.Branch.TheVariants.{Entry}
+use Rattle.branches.specs.declared.branch.Branch.TheVariants.{Nothing, Entry}
 use Rattle.branches.specs.States.{Tables, Notes, Sits}
-use Rattle.branches.specs.Branches.{Single, SettingRead}
+use Rattle.branches.specs.Branches.{Is, Single}
 use Rattle.branches.proofs.Settings.{lone, edited_split, edited_over, edited_same, old_entry, new_entry}
 use Rattle.tables.specs.declared.cells.EntryId.{EntryId}
 use Rattle.edits.specs.declared.estimate.Estimate.{Estimate}
-use Rattle.edits.specs.Sets.{Estimated, Alone, FoundAlone}
-use Rattle.edits.specs.Estimates.{value_size, alone_told, SameAlone, EstimatedAlone}
+use Rattle.edits.specs.Sets.{value_bytes, tally, Estimated, Alone, FoundAlone}
+use Rattle.edits.specs.Rowing.{setting_held, setting_at, value_held, RowEstimate}
+use Rattle.edits.specs.Estimates.{alone_told, SameAlone, EstimatedAlone}
 use Rattle.edits.proofs.Turns.{reads}
 
 -- ---- what is left
@@ -68,43 +69,51 @@ told_lone K n h p a k (Some v) low e =
 
 -- ---- whether it was there already
 
-module _ {X Y : Type 0} (K : KeyKind) (kb : X → List ℕ) (vb : Y → List ℕ) (T : Tables X Y) (b : Branch) where
-  module _ (id : EntryId) (key : X) (old : Y) (read : SettingRead K kb vb T.entries id.0 key old) where
-    found_entry : (N : Notes) (R E : List ℕ) → Sits K kb vb T N R E → (a : Part) (k : List ℕ) → Single T N id.0 a → Alone a.settings k → look a.settings k ≡ Some (vb old)
-    found_entry N R E S a k one alone =
-        let s : Setting = record { key = kb key; value = vb old } in
-        let is : a.settings ≡ s ∷ [] = one.settings ∙ ap (λ (t : Setting). t ∷ []) (read.setting T N R E S refl) in
-        let e : kb key ≡ k = elim alone [
-          | inl z ↦ absurd (omega (arith, ap length (sym z ∙ is)))
-          | inr z ↦ ap (λ (m : Map). first m) (sym is ∙ z.1.0) ∙ z.1.1
-        ] in
-        ap (λ (m : Map). look m k) is ∙ cond-true (same (kb key) k) (Some (vb old)) None ((same_decides (kb key) k).1 e)
-      where
-        first : Map → List ℕ
-        first [] = []
-        first (t ∷ m) = t.key
+module _ {X Y : Type 0} (K : KeyKind) (kb : X → List ℕ) (vb : Y → List ℕ) (T : Tables X Y) (b : Branch) (x : Option (List ℕ)) (r : Bool) where
+  found_none : (N : Notes) (p : List ℕ) (level : ℕ) (a : Part) (k : List ℕ) → Is T N Nothing level p a → look a.settings k ≡ None
+  found_none N p level a k is = ap (λ (o : Part). look o.settings k) is
 
-    pub same_some : (x : Option (List ℕ)) (r : Bool) (v : List ℕ) → b ≡ Entry id → x ≡ Some v → Decides r (vb old ≡ v) → SameAlone K kb vb T b x r
-    same_some x r v e f d =
-        subst (λ (y : Branch). SameAlone K kb vb T y x r) (sym e) (subst (λ (y : Option (List ℕ)). SameAlone K kb vb T (Entry id) y r) (sym f) (record {
-          same = λ N R E S level p a k low is alone.
-              same_from_decides r (same (vb old) v) d (same_decides (vb old) v) ∙ ap (λ (y : Option (List ℕ)). same_found y (Some v)) (sym (found_entry N R E S a k is.1 alone));
-        }))
+  found_entry : (id : EntryId) (N : Notes) (R E : List ℕ) → Sits K kb vb T N R E → (a : Part) (k : List ℕ) → Single T N id.0 a → Alone a.settings k → look a.settings k ≡ value_held kb vb T.entries (Some id)
+  found_entry id N R E S a k one alone =
+      let s : Setting = setting_at kb vb T.entries id.0 in
+      let F = S.means.entry_fits id.0 one.held in
+      let is : a.settings ≡ s ∷ [] = one.settings ∙ ap (λ (t : Setting). t ∷ []) (F.setting_is ∙ sym (ap (setting_held kb vb) F.holds)) in
+      let e : s.key ≡ k = elim alone [
+        | inl z ↦ absurd (omega (arith, ap length (sym z ∙ is)))
+        | inr z ↦ ap (λ (m : Map). first m) (sym is ∙ z.1.0) ∙ z.1.1
+      ] in
+      ap (λ (m : Map). look m k) is ∙ cond-true (same s.key k) (Some s.value) None ((same_decides s.key k).1 e)
+    where
+      first : Map → List ℕ
+      first [] = []
+      first (t ∷ m) = t.key
 
-    pub same_none : (x : Option (List ℕ)) → b ≡ Entry id → x ≡ None → SameAlone K kb vb T b x false
-    same_none x e f =
-        subst (λ (y : Branch). SameAlone K kb vb T y x false) (sym e) (subst (λ (y : Option (List ℕ)). SameAlone K kb vb T (Entry id) y false) (sym f) (record {
-          same = λ N R E S level p a k low is alone. ap (λ (y : Option (List ℕ)). same_found y None) (sym (found_entry N R E S a k is.1 alone));
-        }))
+  pub same_nothing : b ≡ Nothing → r ≡ same_found (value_held kb vb T.entries None) x → SameAlone K kb vb T b x r
+  same_nothing e f =
+      subst (λ (y : Branch). SameAlone K kb vb T y x r) (sym e)
+      (record { same = λ N R E S level p a k low is alone. f ∙ ap (λ (y : Option (List ℕ)). same_found y x) (sym (found_none N p level a k is)) })
 
-  pub estimated_alone : (x : Option (List ℕ)) (r : Bool) → SameAlone K kb vb T b x r → (size : ℕ) → size ≡ value_size x → (entries : ℕ) → entries ≡ cond r 0 size
-      → EstimatedAlone K kb vb T b x (record { size = size; ours = r; theirs = r; crowded = false; nodes = 0; entries = entries })
-  estimated_alone x r s size e entries f = record {
-    told = λ N R E S level p a k low is alone.
-        let z = s.same N R E S level p a k low is alone in
-        let w : entries ≡ cond (same_found (look a.settings k) x) 0 (value_size x) = f ∙ ap (cond r 0) e ∙ ap (λ (t : Bool). cond t 0 (value_size x)) z in
-        λ i. record { size = e i; ours = z i; theirs = z i; crowded = false; nodes = 0; entries = w i };
-  }
+  pub same_entry : (id : EntryId) → b ≡ Entry id → r ≡ same_found (value_held kb vb T.entries (Some id)) x → SameAlone K kb vb T b x r
+  same_entry id e f =
+      subst (λ (y : Branch). SameAlone K kb vb T y x r) (sym e)
+      (record { same = λ N R E S level p a k low is alone. f ∙ ap (λ (y : Option (List ℕ)). same_found y x) (sym (found_entry id N R E S a k is.1 alone)) })
+
+-- what is set alone is a row of one setting, or none
+row_alone : {Y : Type 0} (vb : Y → List ℕ) (value : Option Y) (same : Bool) (c : Estimate) → RowEstimate (bool_byte (is_some value)) (is_some value) same c → tally c ≡ alone_told (value_bytes vb value) same
+row_alone vb (Some v) same c R = λ i. record { size = R.size i; ours = R.ours i; theirs = R.theirs i; crowded = R.crowded i; nodes = R.nodes i; entries = R.entries i }
+row_alone vb None same c R =
+    let none = R.entries ∙ sym (no_entries same) in
+    λ i. record { size = R.size i; ours = R.ours i; theirs = R.theirs i; crowded = R.crowded i; nodes = R.nodes i; entries = none i }
+
+pub estimated_alone :
+    {X Y : Type 0} (K : KeyKind) (kb : X → List ℕ) (vb : Y → List ℕ) (T : Tables X Y) (b : Branch) (value : Option Y) (r : Bool) → SameAlone K kb vb T b (value_bytes vb value) r
+    → (some : Bool) → some ≡ is_some value → (count : ℕ) → count ≡ bool_byte some → (c : Estimate) → RowEstimate count some r c → EstimatedAlone K kb vb T b (value_bytes vb value) c
+estimated_alone K kb vb T b value r s some some_is count count_is c R = record {
+  told = λ N R' E S level p a k low is alone.
+      row_alone vb value r c
+      (subst (λ (t : Bool). RowEstimate (bool_byte t) t r c) some_is (subst (λ (i : ℕ). RowEstimate i some r c) count_is R))
+      ∙ ap (alone_told (value_bytes vb value)) (s.same N R' E S level p a k low is alone);
+}
 
 -- ---- whatever the branch is
 

@@ -1,7 +1,7 @@
 -- Entries taken up one after another, and held once more each. Assumes nothing.
-use Rattle.std.proofs.Common.{◌≡◌, ℕ, ◌+◌, ◌-◌, ◌^◌, ◌<◌, ◌≤◌, Bool, true, false, List, [], ◌∷◌, ◌++◌, map, length, get_or, take, drop, is_some, Some, None, Option, sym, refl, ap, ◌∙◌, subst, append_assoc, arith, length-append, length-drop}
+use Rattle.std.proofs.Common.{◌≡◌, ℕ, ◌+◌, ◌^◌, ◌<◌, ◌≤◌, Bool, true, false, List, [], ◌∷◌, ◌++◌, map, length, get_or, take, is_some, Some, None, Option, sym, refl, ap, ◌∙◌, subst, append_assoc, arith, length-append}
 use lib.Count.{ones}
-use Rattle.std.proofs.lemmas.List.{length-map, length_push, map_push, append-nil, take_more, get_or-drop, length-take-le}
+use Rattle.std.proofs.lemmas.List.{length-map, length_push, map_push, append-nil, take_more, take_all, length-take-le}
 use Rattle.kinds.specs.Kinds.{KeyKind}
 use Rattle.tables.specs.declared.cells.NodeCell.{NodeCell}
 use Rattle.tables.specs.declared.cells.EntryCell.{EntryCell}
@@ -14,8 +14,7 @@ use Rattle.branches.specs.declared.handful.Handful.{Handful}
 use Rattle.branches.specs.Handfuls.{with_branch, Bundled}
 use Rattle.branches.proofs.Growing.{grown_none, grown_then, sits_same, entry_held_grown, entry_held_sits}
 use Rattle.branches.proofs.Bundles.{bundled_more, bundled_fits}
-use Rattle.edits.specs.declared.row.Row.{Row}
-use Rattle.edits.specs.Rowing.{row_range, Rowful, entries_in, beside, Keeping, EntriesKept, Adding, Added}
+use Rattle.edits.specs.Rowing.{Rowful, entries_in, beside, Keeping, EntriesKept, Adding, Added}
 
 -- ---- in hand
 
@@ -45,23 +44,6 @@ module _ (h : Handful) (ys : List ℕ) (R : Rowful h ys) where
         few = omega (arith, length_push ys e.0, rowful_count);
       }
 
--- ---- ranges of a row
-
-module _ (r : Row) (from : ℕ) where
-  pub range_none : row_range r from from ≡ []
-  range_none = let z : from - from ≡ 0 = omega arith in ap (λ (n : ℕ). take n (drop from r.slots)) z
-
-  pub range_more : (j : ℕ) → from ≤ j → j < length r.slots → row_range r from (j + 1) ≡ row_range r from j ++ (get_or r.slots j 0 ∷ [])
-  range_more j h l =
-      let s : j + 1 - from ≡ (j - from) + 1 = omega arith in
-      let back : from + (j - from) ≡ j = omega arith in
-      ap (λ (n : ℕ). take n (drop from r.slots)) s
-      ∙ take_more (drop from r.slots) (j - from) 0 (omega (arith, length-drop from r.slots))
-      ∙ ap (λ (x : ℕ). row_range r from j ++ (x ∷ [])) (get_or-drop from r.slots (j - from) 0 ∙ ap (λ (n : ℕ). get_or r.slots n 0) back)
-
-  pub range_long : (j : ℕ) → j ≤ length r.slots → from ≤ length r.slots → length (row_range r from j) ≡ j - from
-  range_long j l m = length-take-le (j - from) (drop from r.slots) (omega (arith, length-drop from r.slots))
-
 -- ---- held
 
 module _ {X Y : Type 0} (K : KeyKind) (kb : X → List ℕ) (vb : Y → List ℕ) where
@@ -83,63 +65,53 @@ module _ {X Y : Type 0} (K : KeyKind) (kb : X → List ℕ) (vb : Y → List ℕ
         (old.grown T N n) (entry_held_grown (beside T fs g t) (beside T gs h u) e done held (refl, refl, refl) n (λ q. ⊥) (λ k. ⊥) N);
   }
 
--- ---- the entries of a row so far
+-- ---- the first entries of a row
 
--- from one place up to another, they are held and in hand
+-- so many are held and in hand
 abbrev pub KeptTo :
-    {X Y : Type 0} → KeyKind → (X → List ℕ) → (Y → List ℕ) → List (EntryCell X Y) → ℕ → ℕ → Row → ℕ → Handful → ℕ → List (EntryCell X Y) → ℕ → ℕ → Handful → Type 0
-KeptTo K kb vb es f s r from hand j fs g t all = EntriesKept K kb vb es f s (row_range r from j) fs g t × Rowful all (entries_in hand ++ row_range r from j)
+    {X Y : Type 0} → KeyKind → (X → List ℕ) → (Y → List ℕ) → List (EntryCell X Y) → ℕ → ℕ → List ℕ → Handful → ℕ → List (EntryCell X Y) → ℕ → ℕ → Handful → Type 0
+KeptTo K kb vb es f s xs hand j fs g t all = EntriesKept K kb vb es f s (take j xs) fs g t × Rowful all (entries_in hand ++ take j xs)
 
-module _ {X Y : Type 0} (K : KeyKind) (kb : X → List ℕ) (vb : Y → List ℕ) (es : List (EntryCell X Y)) (f s : ℕ) (r : Row) (from to : ℕ) (hand : Handful) (P : Keeping K kb vb es f s r from to hand) where
-  pub keep_start : KeptTo K kb vb es f s r from hand from es f s hand
-  keep_start = (
-    subst (λ (l : List ℕ). EntriesKept K kb vb es f s l es f s) (sym (range_none r from)) (kept_none K kb vb es f s),
-    subst (Rowful hand) (sym (append-nil (entries_in hand)) ∙ ap (λ (l : List ℕ). entries_in hand ++ l) (sym (range_none r from))) P.rowful,
-  )
+module _ {X Y : Type 0} (K : KeyKind) (kb : X → List ℕ) (vb : Y → List ℕ) (es : List (EntryCell X Y)) (f s : ℕ) (xs : List ℕ) (hand : Handful) (P : Keeping K kb vb es f s xs hand) where
+  pub keep_start : KeptTo K kb vb es f s xs hand 0 es f s hand
+  keep_start = (kept_none K kb vb es f s, subst (Rowful hand) (sym (append-nil (entries_in hand))) P.rowful)
 
-  module _ (j : ℕ) (fs : List (EntryCell X Y)) (g t : ℕ) (all : Handful) (I : KeptTo K kb vb es f s r from hand j fs g t all) (low : from ≤ j) where
-    module _ (high : j < to) where
-      pub keep_held : 0 < (entry_cell fs (get_or r.slots j 0)).holders
-      keep_held = (I.0.grown P.tables P.notes 0).entry_held (get_or r.slots j 0) (P.held j low high)
+  module _ (j : ℕ) (fs : List (EntryCell X Y)) (g t : ℕ) (all : Handful) (I : KeptTo K kb vb es f s xs hand j fs g t all) where
+    module _ (inside : j < length xs) where
+      pub keep_held : 0 < (entry_cell fs (get_or xs j 0)).holders
+      keep_held = (I.0.grown P.tables P.notes 0).entry_held (get_or xs j 0) (P.held j 0 inside)
 
-      range_so_far : length (row_range r from j) ≡ j - from
-      range_so_far = range_long r from j (omega (arith, P.inside, P.slots)) (omega (arith, P.inside, P.slots))
+      so_far : length (take j xs) ≡ j
+      so_far = length-take-le j xs (omega arith)
 
       pub keep_heap :
           (cs : List NodeCell) × ((R : List ℕ) × (Entries cs fs g t R × ((length R ≤ 65535) × ((length cs ≤ 65535) × ((i : ℕ) → ones (cell cs i).datamap ≤ 16)))))
       keep_heap =
           let H = I.0.sits P.tables P.notes P.roots P.in_hand P.sits in (
             P.tables.nodes,
-            (
-              row_range r from j ++ P.in_hand,
-              (
-                H.entries,
-                (omega (arith, length-append (row_range r from j) P.in_hand, range_so_far, P.few_in_hand, P.inside), (H.nodes.short, λ i. (H.nodes.narrow i).0)),
-              ),
-            ),
+            (take j xs ++ P.in_hand, (H.entries, (omega (arith, length-append (take j xs) P.in_hand, so_far, P.few_in_hand), (H.nodes.short, λ i. (H.nodes.narrow i).0)))),
           )
 
       pub keep_few : all.singles < 16
       keep_few =
-          omega (arith, rowful_count all (entries_in hand ++ row_range r from j) I.1, length-append (entries_in hand) (row_range r from j), range_so_far, rowful_count hand (entries_in hand) P.rowful, P.room)
+          omega (arith, rowful_count all (entries_in hand ++ take j xs) I.1, length-append (entries_in hand) (take j xs), so_far, rowful_count hand (entries_in hand) P.rowful, P.room)
 
       pub keep_fits : (all.kids < 16) × ((all.datamap < 2 ^ all.singles) × (all.nodemap < 2 ^ all.singles))
-      keep_fits = rowful_fits all (entries_in hand ++ row_range r from j) I.1
+      keep_fits = rowful_fits all (entries_in hand ++ take j xs) I.1
 
-      pub keep_step : (gs : List (EntryCell X Y)) (h u : ℕ) (e : EntryId) (next : Handful) → e.0 ≡ get_or r.slots j 0 → EntryHeld e.0 fs g t gs h u
-          → next ≡ with_branch all all.singles (Entry e) → KeptTo K kb vb es f s r from hand (j + 1) gs h u next
+      pub keep_step : (gs : List (EntryCell X Y)) (h u : ℕ) (e : EntryId) (next : Handful) → e.0 ≡ get_or xs j 0 → EntryHeld e.0 fs g t gs h u
+          → next ≡ with_branch all all.singles (Entry e) → KeptTo K kb vb es f s xs hand (j + 1) gs h u next
       keep_step gs h u e next z done made =
-          let more : row_range r from (j + 1) ≡ row_range r from j ++ (e.0 ∷ []) =
-          range_more r from j low (omega (arith, P.slots, P.inside)) ∙ ap (λ (x : ℕ). row_range r from j ++ (x ∷ [])) (sym z) in
-          let up : Rowful next ((entries_in hand ++ row_range r from j) ++ (e.0 ∷ [])) =
-          subst (λ (a : Handful). Rowful a ((entries_in hand ++ row_range r from j) ++ (e.0 ∷ []))) (sym made) (rowful_more all (entries_in hand ++ row_range r from j) I.1 e keep_few) in (
+          let more : take (j + 1) xs ≡ take j xs ++ (e.0 ∷ []) = take_more xs j 0 inside ∙ ap (λ (x : ℕ). take j xs ++ (x ∷ [])) (sym z) in
+          let up : Rowful next ((entries_in hand ++ take j xs) ++ (e.0 ∷ [])) =
+          subst (λ (a : Handful). Rowful a ((entries_in hand ++ take j xs) ++ (e.0 ∷ []))) (sym made) (rowful_more all (entries_in hand ++ take j xs) I.1 e keep_few) in (
             subst (λ (l : List ℕ). EntriesKept K kb vb es f s l gs h u) (sym more)
-                (kept_more K kb vb es f s (row_range r from j) fs g t I.0 e.0 (subst (λ (x : ℕ). 0 < (entry_cell fs x).holders) (sym z) keep_held) gs h u done),
-            subst (Rowful next) (append_assoc (entries_in hand) (row_range r from j) (e.0 ∷ []) ∙ ap (λ (l : List ℕ). entries_in hand ++ l) (sym more)) up,
+                (kept_more K kb vb es f s (take j xs) fs g t I.0 e.0 (subst (λ (x : ℕ). 0 < (entry_cell fs x).holders) (sym z) keep_held) gs h u done),
+            subst (Rowful next) (append_assoc (entries_in hand) (take j xs) (e.0 ∷ []) ∙ ap (λ (l : List ℕ). entries_in hand ++ l) (sym more)) up,
           )
 
-    pub keep_end : j ≤ to → to ≤ j → KeptTo K kb vb es f s r from hand to fs g t all
-    keep_end a b = let e : j ≡ to = omega arith in subst (λ (i : ℕ). KeptTo K kb vb es f s r from hand i fs g t all) e I
+    pub keep_end : length xs ≤ j → EntriesKept K kb vb es f s xs fs g t × Rowful all (entries_in hand ++ xs)
+    keep_end past = subst (λ (l : List ℕ). EntriesKept K kb vb es f s l fs g t × Rowful all (entries_in hand ++ l)) (take_all j xs past) I
 
 -- ---- a new entry
 

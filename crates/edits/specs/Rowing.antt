@@ -1,10 +1,11 @@
 -- Rows of entries at the deepest level: read, searched and taken up. Assumes nothing.
-use Rattle.std.specs.Prelude.{◌≡◌, ℕ, ◌+◌, ◌-◌, ◌<◌, ◌≤◌, Bool, true, false, cond, List, [], ◌∷◌, ◌++◌, map, length, take, drop, is_some, Some, None, Option, nat_lt, slice_index, slice_index_or, slice_range}
+use Rattle.std.specs.Prelude.{◌≡◌, ℕ, ◌+◌, ◌<◌, ◌≤◌, Bool, true, false, cond, List, [], ◌∷◌, ◌++◌, map, length, take, drop, is_some, Some, None, Option, Result, MatchResult, IfSome, nat_lt, slice_index, slice_index_or, All}
 use Rattle.std.specs.List.{AllByRecursion}
 use Rattle.kinds.specs.Kinds.{KeyKind}
 use Rattle.model.specs.Maps.{Setting, Map, Rises}
 use Rattle.tables.specs.declared.cells.NodeCell.{NodeCell}
 use Rattle.tables.specs.declared.cells.EntryCell.{EntryCell}
+use Rattle.tables.specs.declared.cells.EntryId.{EntryId}
 use Rattle.tables.specs.Cells.{cell, entry_cell, singles}
 use Rattle.tables.specs.Heaps.{Entries, EntryMade}
 use Rattle.branches.specs.declared.branch.Branch.{Branch}
@@ -14,13 +15,8 @@ use Rattle.branches.specs.States.{Tables, Notes, Sits, Grown}
 use Rattle.branches.specs.Handfuls.{Bundled}
 use Rattle.plans.specs.Plans.{capped}
 use Rattle.edits.specs.declared.estimate.Estimate.{Estimate}
-use Rattle.edits.specs.declared.row.Row.{Row}
 
 -- ---- the row of a branch
-
--- the entries of a row
-abbrev pub in_row : Row → List ℕ
-in_row r = take r.count r.slots
 
 -- a branch refers to a node that is held, if to any
 abbrev pub NodeIn : List NodeCell → Branch → Type 0
@@ -34,11 +30,6 @@ entries_of cs Nothing = []
 entries_of cs (Entry e) = e.0 ∷ []
 entries_of cs (Child i) = singles (cell cs i.0)
 
-pub record RowOf (cs : List NodeCell) (b : Branch) (r : Row) : Type 0 where
-  pub slots : length r.slots ≡ 16
-  pub few : r.count ≤ 16
-  pub is : in_row r ≡ entries_of cs b
-
 -- ---- the settings of a row
 
 -- the setting of an entry, by its cell
@@ -49,20 +40,8 @@ setting_held kb vb None = record { key = []; value = [] }
 abbrev pub setting_at : {X Y : Type 0} → (X → List ℕ) → (Y → List ℕ) → List (EntryCell X Y) → ℕ → Setting
 setting_at kb vb es e = setting_held kb vb (entry_cell es e).held
 
-abbrev pub row_settings : {X Y : Type 0} → (X → List ℕ) → (Y → List ℕ) → List (EntryCell X Y) → Row → Map
-row_settings kb vb es r = map (setting_at kb vb es) (in_row r)
-
--- the entries of a row are held, in some tables with the entry cells es
-pub record SomeRow {X Y : Type 0} (K : KeyKind) (kb : X → List ℕ) (vb : Y → List ℕ) (es : List (EntryCell X Y)) (r : Row) : Type 0 where
-  pub tables : Tables X Y
-  pub notes : Notes
-  pub roots : List ℕ
-  pub in_hand : List ℕ
-  pub sits : Sits K kb vb tables notes roots in_hand
-  pub entries_are : tables.entries ≡ es
-  pub slots : length r.slots ≡ 16
-  pub few : r.count ≤ 16
-  pub held : (j : ℕ) → j < r.count → 0 < (entry_cell es (slice_index r.slots j)).holders
+abbrev pub row_settings : {X Y : Type 0} → (X → List ℕ) → (Y → List ℕ) → List (EntryCell X Y) → List ℕ → Map
+row_settings kb vb es xs = map (setting_at kb vb es) xs
 
 -- so many settings of a map come before a key, and the next one has it or comes after it
 pub record Placed (K : KeyKind) (m : Map) (k : List ℕ) (at : ℕ) (found : Bool) : Type 0 where
@@ -71,15 +50,19 @@ pub record Placed (K : KeyKind) (m : Map) (k : List ℕ) (at : ℕ) (found : Boo
   pub here : found ≡ true → (slice_index_or m at (record { key = []; value = [] })).key ≡ k
   pub ahead : AllByRecursion (λ s. K.before k s.key ≡ true) (drop (at + cond found 1 0) m)
 
--- where a key is in a row that rises
-pub record Found {X Y : Type 0} (K : KeyKind) (kb : X → List ℕ) (vb : Y → List ℕ) (es : List (EntryCell X Y)) (r : Row) (k : List ℕ) (at : ℕ) (found : Bool) : Type 0 where
-  pub placed : Rises K (row_settings kb vb es r) → Placed K (row_settings kb vb es r) k at found
+-- where a key is in a row that rises, or how many settings come before it
+abbrev pub Found : {X Y : Type 0} → KeyKind → (X → List ℕ) → (Y → List ℕ) → List (EntryCell X Y) → List ℕ → List ℕ → Result ℕ ℕ → Type 0
+Found K kb vb es xs k r = Rises K (row_settings kb vb es xs) → MatchResult r (λ at. Placed K (row_settings kb vb es xs) k at true) (λ at. Placed K (row_settings kb vb es xs) k at false)
+
+-- a row that rises, around a key: the entries before it, the one that has it, and those after it
+pub record Split {X Y : Type 0} (K : KeyKind) (kb : X → List ℕ) (vb : Y → List ℕ) (es : List (EntryCell X Y)) (xs k before : List ℕ) (own : Option EntryId) (after : List ℕ) : Type 0 where
+  pub at : ℕ
+  pub before_are : before ≡ take at xs
+  pub own_is : IfSome own (λ id. id.0 ≡ slice_index xs at)
+  pub after_are : after ≡ drop (at + cond (is_some own) 1 0) xs
+  pub placed : Rises K (row_settings kb vb es xs) → Placed K (row_settings kb vb es xs) k at (is_some own)
 
 -- ---- entries taken up
-
--- the entries of a row from one place to another
-abbrev pub row_range : Row → ℕ → ℕ → List ℕ
-row_range r from to = slice_range r.slots from to
 
 -- the entries ys are in hand, and no child
 pub record Rowful (h : Handful) (ys : List ℕ) : Type 0 where
@@ -93,20 +76,17 @@ entries_in h = take h.singles h.entries
 abbrev pub beside : {X Y : Type 0} → Tables X Y → List (EntryCell X Y) → ℕ → ℕ → Tables X Y
 beside T es f s = record { nodes = T.nodes; free = T.free; spare = T.spare; entries = es; entry_free = f; entry_spare = s }
 
--- a row's entries from one place to another can be held once more, and there is room for them in hand
-pub record Keeping {X Y : Type 0} (K : KeyKind) (kb : X → List ℕ) (vb : Y → List ℕ) (es : List (EntryCell X Y)) (f s : ℕ) (r : Row) (from to : ℕ) (hand : Handful) : Type 0 where
+-- the entries xs can be held once more, and there is room for them in hand
+pub record Keeping {X Y : Type 0} (K : KeyKind) (kb : X → List ℕ) (vb : Y → List ℕ) (es : List (EntryCell X Y)) (f s : ℕ) (xs : List ℕ) (hand : Handful) : Type 0 where
   pub tables : Tables X Y
   pub notes : Notes
   pub roots : List ℕ
   pub in_hand : List ℕ
   pub sits : Sits K kb vb (beside tables es f s) notes roots in_hand
-  pub slots : length r.slots ≡ 16
-  pub order : from ≤ to
-  pub inside : to ≤ 16
-  pub held : (j : ℕ) → from ≤ j → j < to → 0 < (entry_cell es (slice_index r.slots j)).holders
-  pub few_in_hand : length in_hand + (to - from) ≤ 65535
+  pub held : All (λ e. 0 < (entry_cell es e).holders) xs
+  pub few_in_hand : length in_hand + length xs ≤ 65535
   pub rowful : Rowful hand (entries_in hand)
-  pub room : hand.singles + (to - from) ≤ 16
+  pub room : hand.singles + length xs ≤ 16
 
 -- the entries xs have one holder more each, from outside
 pub record EntriesKept {X Y : Type 0} (K : KeyKind) (kb : X → List ℕ) (vb : Y → List ℕ) (es : List (EntryCell X Y)) (f s : ℕ) (xs : List ℕ) (fs : List (EntryCell X Y)) (g t : ℕ) : Type 0 where
@@ -129,9 +109,10 @@ Added key None hand es f s next fs g t = (next ≡ hand) × ((fs ≡ es) × ((g 
 
 -- ---- estimates
 
--- the value at a place of a row, where the key was found
-abbrev pub value_there : {X Y : Type 0} → (X → List ℕ) → (Y → List ℕ) → List (EntryCell X Y) → Row → ℕ → Bool → Option (List ℕ)
-value_there kb vb es r at found = cond found (Some (setting_at kb vb es (slice_index r.slots at)).value) None
+-- the value of an entry, if there is one
+abbrev pub value_held : {X Y : Type 0} → (X → List ℕ) → (Y → List ℕ) → List (EntryCell X Y) → Option EntryId → Option (List ℕ)
+value_held kb vb es (Some id) = Some (setting_at kb vb es id.0).value
+value_held kb vb es None = None
 
 -- of a row of so many settings, of which one may be new, where the row is the source's or not
 pub record RowEstimate (count : ℕ) (some same : Bool) (c : Estimate) : Type 0 where

@@ -3,7 +3,6 @@
 
 mod estimate;
 mod estimating;
-mod row;
 mod rows;
 mod setting;
 

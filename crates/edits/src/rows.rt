@@ -1,83 +1,80 @@
 // A part at the deepest level, one key of it set: a row of at most sixteen entries by rising key.
-ghost use Rattle.std.specs.Prelude.{◌≡◌, ◌<◌, ◌≤◌, true, ◌++◌, length};
+ghost use Rattle.std.specs.Prelude.{◌≡◌, ◌++◌, length, All, IfSome};
+ghost use Rattle.std.specs.List.Sorted.{IsSearchInRange};
 ghost use Rattle.model.specs.Maps.{same_found};
 ghost use Rattle.tables.specs.Cells.{singles};
+ghost use Rattle.branches.specs.Branches.{SomeEntry};
 ghost use Rattle.branches.specs.States.{tables_of};
 ghost use Rattle.edits.specs.Sets.{value_bytes, Seen, Estimated, Ready, Done};
-ghost use Rattle.edits.specs.Rowing.{in_row, NodeIn, RowOf, SomeRow, Found, row_range, entries_in, Rowful, Keeping, EntriesKept, Adding, Added, value_there, RowEstimate};
+ghost use Rattle.edits.specs.Rowing.{NodeIn, entries_of, Found, Split, entries_in, Rowful, Keeping, EntriesKept, Adding, Added, value_held};
 
 use super::estimate::Estimate;
-use super::row::Row;
 use branches::{Branch, Handful, assemble, empty_handed, setting_of, take_up};
 use kinds::{Key, Value};
 use std::cmp::Ordering;
 use tables::{Digit, EntryId, EntryTable, NodeCell, NodeTable, Tables, hold_entry, make_entry};
 
-// The entries of a node.
-fn row_in(node: &NodeCell) -> Row
-    ensures slots { length result.slots ≡ 16 }
-    ensures few { result.count ≤ 16 }
-    ensures is { in_row result ≡ singles node.now }
-{
-    let slots = node.entries;
-    let count = node.datamap.count_ones() as usize;
-    Row { slots, count }
-}
-
-// The entries of a branch at the deepest level.
-fn row_of(nodes: &NodeTable, branch: Branch) -> Row
+// A branch at the deepest level as a node with the same entries.
+fn node_of(nodes: &NodeTable, branch: Branch) -> NodeCell
     requires { NodeIn nodes.now.cells.now branch }
-    ensures { RowOf nodes.now.cells.now branch result }
+    ensures { singles result ≡ entries_of nodes.now.cells.now branch }
 {
     match branch {
-        Branch::Nothing => Row {
-            slots: [0; 16],
-            count: 0,
+        Branch::Nothing => NodeCell::empty(),
+        Branch::Entry(id) => NodeCell {
+            datamap: 1,
+            entries: [id.0; 16],
+            ..NodeCell::empty()
         },
-        Branch::Entry(id) => Row {
-            slots: [id.0; 16],
-            count: 1,
-        },
-        Branch::Child(id) => {
-            let node = nodes.cells[id.0 as usize];
-            row_in(&node)
-        }
+        Branch::Child(id) => nodes.cells[id.0 as usize],
     }
 }
 
-// How many entries of a row come before a key, and whether the next one has it.
-fn find_in<K: Key, V: Value>(entries: &EntryTable<K, V>, row: &Row, key: &K) -> (usize, bool)
-    requires { SomeRow K.Key.kind K.Key.bytes V.Value.bytes entries.now.cells.now row.now }
-    ensures { Found K.Key.kind K.Key.bytes V.Value.bytes entries.now.cells.now row.now (K.Key.bytes key.now) result.0 result.1 }
+// Where a key is in a row, or how many of its entries come before the key.
+fn find_in<K: Key, V: Value>(
+    entries: &EntryTable<K, V>,
+    row: &[u16],
+    key: &K,
+) -> Result<usize, usize>
+    requires { All (SomeEntry K.Key.kind K.Key.bytes V.Value.bytes entries.now.cells.now) row.now }
+    ensures inside { IsSearchInRange result (length row.now) }
+    ensures place { Found K.Key.kind K.Key.bytes V.Value.bytes entries.now.cells.now row.now (K.Key.bytes key.now) result }
 {
-    let slots = row.slots;
-    for j in 0..row.count {
-        let (other, _) = setting_of(entries, EntryId(slots[j]));
+    for (j, entry) in row.iter().enumerate() {
+        let (other, _) = setting_of(entries, EntryId(*entry));
         match other.order(key) {
             Ordering::Less => {}
-            Ordering::Equal => return (j, true),
-            Ordering::Greater => return (j, false),
+            Ordering::Equal => return Ok(j),
+            Ordering::Greater => return Err(j),
         }
     }
-    (row.count, false)
+    Err(row.len())
 }
 
-// Holds a row's entries from one place to another, and takes them up.
-fn keep_range<K: Key, V: Value>(
-    entries: &mut EntryTable<K, V>,
-    row: &Row,
-    from: usize,
-    to: usize,
-    hand: Handful,
-) -> Handful
-    requires { Keeping K.Key.kind K.Key.bytes V.Value.bytes entries.old.cells.now entries.old.free entries.old.spare row.now from to hand }
-    ensures kept { EntriesKept K.Key.kind K.Key.bytes V.Value.bytes entries.old.cells.now entries.old.free entries.old.spare (row_range row.now from to) entries.new.cells.now entries.new.free entries.new.spare }
-    ensures hand { Rowful result (entries_in hand ++ row_range row.now from to) }
+// The entries of a row before a key, the one that has it, and those after it.
+fn split_row<'a, K: Key, V: Value>(
+    entries: &EntryTable<K, V>,
+    row: &'a [u16],
+    key: &K,
+) -> (&'a [u16], Option<EntryId>, &'a [u16])
+    requires { All (SomeEntry K.Key.kind K.Key.bytes V.Value.bytes entries.now.cells.now) row.now }
+    ensures { Split K.Key.kind K.Key.bytes V.Value.bytes entries.now.cells.now row.now (K.Key.bytes key.now) result.0.now result.1 result.2.now }
 {
-    let slots = row.slots;
+    match find_in(entries, row, key) {
+        Ok(at) => (&row[..at], Some(EntryId(row[at])), &row[at + 1..]),
+        Err(at) => (&row[..at], None, &row[at..]),
+    }
+}
+
+// Holds the entries of a row once more each, and takes them up.
+fn keep_row<K: Key, V: Value>(entries: &mut EntryTable<K, V>, row: &[u16], hand: Handful) -> Handful
+    requires { Keeping K.Key.kind K.Key.bytes V.Value.bytes entries.old.cells.now entries.old.free entries.old.spare row.now hand }
+    ensures kept { EntriesKept K.Key.kind K.Key.bytes V.Value.bytes entries.old.cells.now entries.old.free entries.old.spare row.now entries.new.cells.now entries.new.free entries.new.spare }
+    ensures hand { Rowful result (entries_in hand ++ row.now) }
+{
     let mut all = hand;
-    for j in from..to {
-        let id = EntryId(slots[j]);
+    for entry in row {
+        let id = EntryId(*entry);
         hold_entry(entries, id);
         let next = Digit {
             number: all.singles as u8,
@@ -119,51 +116,30 @@ pub fn set_row<K: Key, V: Value>(
     requires { Ready K.Key.kind V.Value.kind K.Key.bytes V.Value.bytes (tables_of tables.old) at (K.Key.bytes key.now) (value_bytes V.Value.bytes value) 0 }
     ensures { Done K.Key.kind V.Value.kind K.Key.bytes V.Value.bytes (tables_of tables.old) at (K.Key.bytes key.now) (value_bytes V.Value.bytes value) 0 result (tables_of tables.new) }
 {
-    let row = row_of(&tables.nodes, at);
-    let (place, found) = find_in(&tables.entries, &row, key);
-    let before = keep_range(&mut tables.entries, &row, 0, place, empty_handed());
-    let here = take_new(&mut tables.entries, key, value, before);
-    let rest = place + usize::from(found);
-    let all = keep_range(&mut tables.entries, &row, rest, row.count, here);
+    let node = node_of(&tables.nodes, at);
+    let (before, _, after) = split_row(&tables.entries, node.singles(), key);
+    let kept = keep_row(&mut tables.entries, before, empty_handed());
+    let put = take_new(&mut tables.entries, key, value, kept);
+    let all = keep_row(&mut tables.entries, after, put);
     assemble(&mut tables.nodes, all, 0)
 }
 
-// Whether a value is the one at a place of a row where the key was found, or there is none in either.
-fn same_value<K: Key, V: Value>(
+// Whether a value is that of an entry, or there is none in either.
+pub(crate) fn same_value<K: Key, V: Value>(
     entries: &EntryTable<K, V>,
-    row: &Row,
-    place: usize,
-    found: bool,
+    found: Option<EntryId>,
     value: Option<V>,
 ) -> bool
-    requires row { SomeRow K.Key.kind K.Key.bytes V.Value.bytes entries.now.cells.now row.now }
-    requires inside { found ≡ true → place < row.now.count }
-    ensures { result ≡ same_found (value_there K.Key.bytes V.Value.bytes entries.now.cells.now row.now place found) (value_bytes V.Value.bytes value) }
+    requires { IfSome found (λ id. SomeEntry K.Key.kind K.Key.bytes V.Value.bytes entries.now.cells.now id.0) }
+    ensures { result ≡ same_found (value_held K.Key.bytes V.Value.bytes entries.now.cells.now found) (value_bytes V.Value.bytes value) }
 {
-    match value {
-        Some(new) => {
-            if !found {
-                return false;
-            }
-            let slots = row.slots;
-            let (_, old) = setting_of(entries, EntryId(slots[place]));
+    match (found, value) {
+        (Some(id), Some(new)) => {
+            let (_, old) = setting_of(entries, id);
             old.same(&new)
         }
-        None => !found,
-    }
-}
-
-// The estimate of a row of so many settings.
-fn estimate_of(count: usize, some: bool, same: bool) -> Estimate
-    ensures { RowEstimate count some same result }
-{
-    Estimate {
-        size: if count > 1 { 2 } else { count },
-        ours: same,
-        theirs: same,
-        crowded: count > 16,
-        nodes: if count > 1 && !same { 1 } else { 0 },
-        entries: if some && !same { 1 } else { 0 },
+        (None, None) => true,
+        _ => false,
     }
 }
 
@@ -177,10 +153,10 @@ pub fn estimate_row<K: Key, V: Value>(
     requires { Seen K.Key.kind V.Value.kind K.Key.bytes V.Value.bytes (tables_of tables.now) at (K.Key.bytes key.now) (value_bytes V.Value.bytes value) 0 }
     ensures { Estimated K.Key.kind V.Value.kind K.Key.bytes V.Value.bytes (tables_of tables.now) at (K.Key.bytes key.now) (value_bytes V.Value.bytes value) 0 result }
 {
-    let row = row_of(&tables.nodes, at);
-    let (place, found) = find_in(&tables.entries, &row, key);
-    let same = same_value(&tables.entries, &row, place, found, value);
+    let node = node_of(&tables.nodes, at);
+    let (before, found, after) = split_row(&tables.entries, node.singles(), key);
+    let same = same_value(&tables.entries, found, value);
     let some = value.is_some();
-    let count = row.count - usize::from(found) + usize::from(some);
-    estimate_of(count, some, same)
+    let count = before.len() + usize::from(some) + after.len();
+    Estimate::of_row(count, some, same)
 }

@@ -1,5 +1,5 @@
 // Setting one key of a branch: a value put there, or taken away.
-ghost use Rattle.std.specs.Prelude.{◌≡◌, true};
+ghost use Rattle.std.specs.Prelude.{ℕ};
 ghost use Rattle.branches.specs.States.{tables_of};
 ghost use Rattle.branches.specs.Branches.{SomePart};
 ghost use Rattle.edits.specs.Sets.{Ready, Done, FoundAlone, value_bytes};
@@ -10,13 +10,8 @@ use kinds::{Key, Value};
 use tables::{Digit, Tables, make_entry};
 
 // Whether a branch has no setting of another key, as an entry.
-pub(crate) fn is_alone<K: Key, V: Value>(
-    tables: &Tables<K, V>,
-    at: Branch,
-    level: u8,
-    key: &K,
-) -> bool
-    requires { SomePart K.Key.kind K.Key.bytes V.Value.bytes (tables_of tables.now) at level }
+pub(crate) fn is_alone<K: Key, V: Value>(tables: &Tables<K, V>, at: Branch, key: &K) -> bool
+    requires { (level : ℕ) × SomePart K.Key.kind K.Key.bytes V.Value.bytes (tables_of tables.now) at level }
     ensures { FoundAlone K.Key.kind K.Key.bytes V.Value.bytes (tables_of tables.now) at (K.Key.bytes key.now) result }
 {
     match at {
@@ -40,7 +35,7 @@ pub fn set<K: Key, V: Value>(
     requires { Ready K.Key.kind V.Value.kind K.Key.bytes V.Value.bytes (tables_of tables.old) at (K.Key.bytes key.now) (value_bytes V.Value.bytes value) level }
     ensures { Done K.Key.kind V.Value.kind K.Key.bytes V.Value.bytes (tables_of tables.old) at (K.Key.bytes key.now) (value_bytes V.Value.bytes value) level result (tables_of tables.new) }
 {
-    if level < 8 && is_alone(tables, at, level, key) {
+    if level < 8 && is_alone(tables, at, key) {
         return match value {
             Some(value) => Branch::Entry(make_entry(&mut tables.entries, *key, value)),
             None => Branch::Nothing,
@@ -54,7 +49,7 @@ pub fn set<K: Key, V: Value>(
     for number in 0u8..16 {
         let g = Digit { number };
         let old = at_digit(tables, at, level, g);
-        let new = if number == digit.number {
+        let new = if g == digit {
             set(tables, old, key, value, level - 1)
         } else {
             keep(tables, old);

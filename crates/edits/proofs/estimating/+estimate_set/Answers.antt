@@ -1,8 +1,9 @@
-use Rattle.std.proofs.Common.{◌<◌, arith}
+use Rattle.std.proofs.Common.{◌<◌, sym, ◌∙◌, arith}
+use Rattle.std.proofs.lemmas.Bool.{eqb-true, eqb-false}
 use Rattle.edits.proofs.Singles.{told_alone}
 use Rattle.edits.proofs.Estimates.{child_seen, digit_at, digit_set, digit_kept, addable, summed_on, close_few, estimated_whole}
 use Rattle.edits.proofs.estimating.+estimate_set.Goals as goal
-use Rattle.edits.proofs.estimating.+estimate_set.Goals.{then-number-digit, else-number-digit}
+use Rattle.edits.proofs.estimating.+estimate_set.Goals.{then-eq, else-eq}
 
 pub returns-then-is_alone : goal.returns-then-is_alone
 returns-then-is_alone g t c = told_alone _ _ _ _ _ _ _ _ _ c.if-level-lt8.true _ c.is_alone.ensures c.if-is_alone.true _ c.estimate_alone.ensures
@@ -16,33 +17,33 @@ estimate_set-new-requires g t c κs within =
         (
           within.1,
           child_seen _ _ _ _ _ _ _ _ _ c.requires tall _ (omega arith) _ c.at_digit-old.ensures
-              (digit_at _ _ _ _ _ _ _ _ _ c.requires _ _ _ c.hash.ensures c.digit_of-digit.ensures c.if-number-digit.true),
+              (digit_at _ _ _ _ _ _ _ _ _ c.requires _ _ _ c.hash.ensures c.digit_of-digit.ensures (eqb-true _ _ (sym c.eq.ensures ∙ c.if-eq.true))),
         ),
       ),
     )
 
-pub together-sum-requires : goal.together-sum-requires
-together-sum-requires g t c =
+pub and-sum-requires : goal.and-sum-requires
+and-sum-requires g t c =
     let tall : 0 < c.args.level = omega arith in
-    elim c.if-number-digit.branch [
-      | then-number-digit w ↦
+    elim c.if-eq.branch [
+      | then-eq w ↦
           addable _ _ _ _ _ _ _ _ _ tall _ _ c.loop-number.invariant _
-          (digit_set _ _ _ _ _ _ _ _ _ tall _ (omega arith) _ c.at_digit-old.ensures _ _ c.hash.ensures c.digit_of-digit.ensures w.if-number-digit.true _ _ w.new-is w.estimate_set-new.ensures) (omega arith) c.requires
-      | else-number-digit w ↦
+          (digit_set _ _ _ _ _ _ _ _ _ tall _ (omega arith) _ c.at_digit-old.ensures _ _ c.hash.ensures c.digit_of-digit.ensures (eqb-true _ _ (sym c.eq.ensures ∙ w.if-eq.true)) _ _ w.new-is w.estimate_set-new.ensures) (omega arith) c.requires
+      | else-eq w ↦
           addable _ _ _ _ _ _ _ _ _ tall _ _ c.loop-number.invariant _
-          (digit_kept _ _ _ _ _ _ _ _ _ tall _ (omega arith) _ c.at_digit-old.ensures _ _ c.hash.ensures c.digit_of-digit.ensures w.if-number-digit.false _ _ w.new-is w.unchanged-new.ensures) (omega arith) c.requires
+          (digit_kept _ _ _ _ _ _ _ _ _ tall _ (omega arith) _ c.at_digit-old.ensures _ _ c.hash.ensures c.digit_of-digit.ensures (eqb-false _ _ (sym c.eq.ensures ∙ w.if-eq.false)) _ _ w.new-is w.of_kept-new.ensures) (omega arith) c.requires
     ]
 
 pub loop-number-preserved : goal.loop-number-preserved
 loop-number-preserved g t c =
     let tall : 0 < c.args.level = omega arith in
-    elim c.if-number-digit.branch [
-      | then-number-digit w ↦
+    elim c.if-eq.branch [
+      | then-eq w ↦
           summed_on _ _ _ _ _ _ _ _ _ tall _ _ c.loop-number.invariant _
-          (digit_set _ _ _ _ _ _ _ _ _ tall _ (omega arith) _ c.at_digit-old.ensures _ _ c.hash.ensures c.digit_of-digit.ensures w.if-number-digit.true _ _ w.new-is w.estimate_set-new.ensures) _ c.together-sum.ensures
-      | else-number-digit w ↦
+          (digit_set _ _ _ _ _ _ _ _ _ tall _ (omega arith) _ c.at_digit-old.ensures _ _ c.hash.ensures c.digit_of-digit.ensures (eqb-true _ _ (sym c.eq.ensures ∙ w.if-eq.true)) _ _ w.new-is w.estimate_set-new.ensures) _ c.and-sum.ensures
+      | else-eq w ↦
           summed_on _ _ _ _ _ _ _ _ _ tall _ _ c.loop-number.invariant _
-          (digit_kept _ _ _ _ _ _ _ _ _ tall _ (omega arith) _ c.at_digit-old.ensures _ _ c.hash.ensures c.digit_of-digit.ensures w.if-number-digit.false _ _ w.new-is w.unchanged-new.ensures) _ c.together-sum.ensures
+          (digit_kept _ _ _ _ _ _ _ _ _ tall _ (omega arith) _ c.at_digit-old.ensures _ _ c.hash.ensures c.digit_of-digit.ensures (eqb-false _ _ (sym c.eq.ensures ∙ w.if-eq.false)) _ _ w.new-is w.of_kept-new.ensures) _ c.and-sum.ensures
     ]
 
 pub close-requires : goal.close-requires

@@ -1,10 +1,8 @@
-use Rattle.std.proofs.Common.{ap}
-use Rattle.edits.specs.Sets.{value_bytes}
-use Rattle.edits.proofs.Singles.{same_some, same_none}
+use Rattle.edits.proofs.Singles.{same_nothing, same_entry}
 use Rattle.edits.proofs.estimating.has_already.Goals as goal
 
-pub returns-in-Some : goal.returns-in-Some
-returns-in-Some g c = same_some _ _ _ _ _ _ _ _ c.setting_of-old.ensures _ _ _ c.in-Entry.is (ap (value_bytes g.V.Value.bytes) c.in-Some.is) c.same.ensures
+pub returns-in-Nothing : goal.returns-in-Nothing
+returns-in-Nothing g c = same_nothing _ _ _ _ _ _ _ c.in-Nothing.is c.same_value.ensures
 
-pub returns-in-None : goal.returns-in-None
-returns-in-None g c = same_none _ _ _ _ _ _ _ _ c.setting_of-old.ensures _ c.in-Entry.is (ap (value_bytes g.V.Value.bytes) c.in-None.is)
+pub returns-in-Entry : goal.returns-in-Entry
+returns-in-Entry g c = same_entry _ _ _ _ _ _ _ _ c.in-Entry.is c.same_value-in-Entry.ensures
