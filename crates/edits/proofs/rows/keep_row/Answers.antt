@@ -1,5 +1,5 @@
 use Rattle.std.proofs.Common.{refl}
-use Rattle.edits.proofs.TakenUp.{keep_start, keep_held, keep_heap, keep_few, keep_fits, keep_step, keep_end}
+use Rattle.edits.proofs.TakenUp.{keep_start, keep_held, keep_heap, keep_few, keep_row_up, keep_step, keep_end}
 use Rattle.edits.proofs.rows.keep_row.Goals as goal
 
 pub loop-entry-init : goal.loop-entry-init
@@ -11,14 +11,14 @@ hold_entry-requires g c = record {
   heap = keep_heap _ _ _ _ _ _ _ _ c.requires _ _ _ _ _ c.loop-entry.invariant c.loop-entry-test.true;
 }
 
-pub take_up-all-requires : goal.take_up-all-requires
-take_up-all-requires g c =
-    let few = keep_few _ _ _ _ _ _ _ _ c.requires _ _ _ _ _ c.loop-entry.invariant c.loop-entry-test.true in
-    let fits = keep_fits _ _ _ _ _ _ _ _ c.requires _ _ _ _ _ c.loop-entry.invariant c.loop-entry-test.true in
-    record { singles = few; kids = fits.0; data_fits = fits.1.0; node_fits = fits.1.1 }
+pub take_next-all-requires : goal.take_next-all-requires
+take_next-all-requires g c = record {
+  row = keep_row_up _ _ _ _ _ _ _ _ c.requires _ _ _ _ _ c.loop-entry.invariant c.loop-entry-test.true;
+  room = keep_few _ _ _ _ _ _ _ _ c.requires _ _ _ _ _ c.loop-entry.invariant c.loop-entry-test.true;
+}
 
 pub loop-entry-preserved : goal.loop-entry-preserved
-loop-entry-preserved g c = keep_step _ _ _ _ _ _ _ _ c.requires _ _ _ _ _ c.loop-entry.invariant c.loop-entry-test.true _ _ _ _ _ refl c.hold_entry.ensures c.take_up-all.ensures
+loop-entry-preserved g c = keep_step _ _ _ _ _ _ _ _ c.requires _ _ _ _ _ c.loop-entry.invariant c.loop-entry-test.true _ _ _ _ _ refl c.hold_entry.ensures c.take_next-all.ensures
 
 pub returns : goal.returns
 returns g c =
