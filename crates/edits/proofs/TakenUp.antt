@@ -79,9 +79,6 @@ abbrev pub KeptTo :
 KeptTo K kb vb es f s xs hand j fs g t all = EntriesKept K kb vb es f s (take j xs) fs g t × Rowful all (entries_in hand ++ take j xs)
 
 module _ {X Y : Type 0} (K : KeyKind) (kb : X → List ℕ) (vb : Y → List ℕ) (es : List (EntryCell X Y)) (f s : ℕ) (xs : List ℕ) (hand : Handful) (P : Keeping K kb vb es f s xs hand) where
-  pub keep_start : KeptTo K kb vb es f s xs hand 0 es f s hand
-  keep_start = (kept_none K kb vb es f s, subst (Rowful hand) (sym (append-nil (entries_in hand))) P.rowful)
-
   module _ (j : ℕ) (fs : List (EntryCell X Y)) (g t : ℕ) (all : Handful) (I : KeptTo K kb vb es f s xs hand j fs g t all) where
     module _ (inside : j < length xs) where
       pub keep_held : 0 < (entry_cell fs (get_or xs j 0)).holders
@@ -98,13 +95,6 @@ module _ {X Y : Type 0} (K : KeyKind) (kb : X → List ℕ) (vb : Y → List ℕ
             (take j xs ++ P.in_hand, (H.entries, (omega (arith, length-append (take j xs) P.in_hand, so_far, P.few_in_hand), (H.nodes.short, λ i. (H.nodes.narrow i).0)))),
           )
 
-      pub keep_few : all.singles < 16
-      keep_few =
-          omega (arith, rowful_count all (entries_in hand ++ take j xs) I.1, length-append (entries_in hand) (take j xs), so_far, rowful_count hand (entries_in hand) P.rowful, P.room)
-
-      pub keep_row_up : Rowful all (entries_in all)
-      keep_row_up = rowful_itself all (entries_in hand ++ take j xs) I.1
-
       pub keep_step : (gs : List (EntryCell X Y)) (h u e : ℕ) (next : Handful) → e ≡ get_or xs j 0 → EntryHeld e fs g t gs h u
           → Rowful next (entries_in all ++ (e ∷ [])) → KeptTo K kb vb es f s xs hand (j + 1) gs h u next
       keep_step gs h u e next z done up =
@@ -114,17 +104,3 @@ module _ {X Y : Type 0} (K : KeyKind) (kb : X → List ℕ) (vb : Y → List ℕ
             subst (Rowful next)
                 (ap (λ (l : List ℕ). l ++ (e ∷ [])) (rowful_in all (entries_in hand ++ take j xs) I.1) ∙ append_assoc (entries_in hand) (take j xs) (e ∷ []) ∙ ap (λ (l : List ℕ). entries_in hand ++ l) more) up,
           )
-
-    pub keep_end : length xs ≤ j → EntriesKept K kb vb es f s xs fs g t × Rowful all (entries_in hand ++ xs)
-    keep_end past = subst (λ (l : List ℕ). EntriesKept K kb vb es f s l fs g t × Rowful all (entries_in hand ++ l)) (take_all j xs past) I
-
--- ---- a new entry
-
-module _ {X Y : Type 0} (key : X) (value : Option Y) (hand : Handful) (es : List (EntryCell X Y)) (f s : ℕ) where
-  pub added_some :
-      (new : Y) → value ≡ Some new → (e : EntryId) (next : Handful) (fs : List (EntryCell X Y)) (g t : ℕ) → EntryMade e.0 (record { held = Some (key, new); holders = 1; next = 0 }) es f s fs g t
-      → Rowful next (entries_in hand ++ (e.0 ∷ [])) → Added key value hand es f s next fs g t
-  added_some new is e next fs g t done up = subst (λ (v : Option Y). Added key v hand es f s next fs g t) (sym is) (e.0, (done, up))
-
-  pub added_none : value ≡ None → Added key value hand es f s hand es f s
-  added_none is = subst (λ (v : Option Y). Added key v hand es f s hand es f s) (sym is) (refl, (refl, (refl, refl)))
