@@ -29,11 +29,8 @@ use Rattle.branches.proofs.Hands.{hand_none, hand_more}
 use Rattle.branches.proofs.Rows.{row_more}
 use Rattle.edits.specs.Sets.{value_bytes}
 use Rattle.edits.specs.Rowing.{Rowful, entries_in, beside, EntriesKept, Added}
+use Rattle.edits.proofs.TakenUp.{rowful_in}
 use Rattle.edits.proofs.RowParts.{Says}
-
--- what is in hand is what the handful says
-rowful_in : (h : Handful) (ys : List ℕ) → Rowful h ys → entries_in h ≡ ys
-rowful_in h ys R = R.bundled.entries_are
 
 -- members by how often they stand in a row
 occ_mem : (l : List ℕ) (e : ℕ) → Mem e l → 0 < occ e l

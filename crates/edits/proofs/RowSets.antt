@@ -24,7 +24,7 @@ use Rattle.branches.proofs.Picks.{sum_append}
 use Rattle.branches.proofs.Bundles.{bundled_none}
 use Rattle.edits.specs.Sets.{value_bytes, ValueReads, Ready}
 use Rattle.edits.specs.Rowing.{NodeIn, entries_of, Placed, Split, Rowful, entries_in, beside, Keeping, EntriesKept, Adding, Added}
-use Rattle.edits.proofs.TakenUp.{rowful_count}
+use Rattle.edits.proofs.TakenUp.{rowful_count, rowful_itself}
 use Rattle.edits.proofs.RowParts.{Says, node_in, row_says, settings_count, row_held, some_entries, placed_in, edited_place, edited_long}
 use Rattle.edits.proofs.RowHands.{No, Got, got_none, got_before, got_after, got_new}
 use Rattle.edits.proofs.RowEnds.{above, leaf_entries, got_assembles, got_built}
@@ -158,7 +158,7 @@ module _ {X Y : Type 0} (K : KeyKind) (V : ValueKind) (kb : X → List ℕ) (vb 
         set_adds = record {
           heap = (T.nodes, (got₁.ids ++ q.in_hand, got₁.in_hand.sits.entries));
           spare = taken;
-          rowful = subst (Rowful h₁) (sym got₁.rowful.bundled.entries_are) got₁.rowful;
+          rowful = rowful_itself h₁ got₁.ids got₁.rowful;
           room = λ e. omega (arith, ids₁, ys_long, few, new_long, lone_some k vb value e);
         }
 
@@ -187,7 +187,7 @@ module _ {X Y : Type 0} (K : KeyKind) (V : ValueKind) (kb : X → List ℕ) (vb 
                 subst (All (λ e. 0 < (entry_cell es₂ e).holders)) (sym F.after_are)
                 (All-drop (λ e. 0 < (entry_cell es₂ e).holders) past xs (λ j d h. got₂.in_hand.grown.entry_held (get_or xs j d) (held j d h)));
             few_in_hand = omega (arith, length-append got₂.ids q.in_hand, ids₂, q.few_in_hand, new_long, few);
-            rowful = subst (Rowful h₂) (sym got₂.rowful.bundled.entries_are) got₂.rowful;
+            rowful = rowful_itself h₂ got₂.ids got₂.rowful;
             room = omega (arith, rowful_count h₂ got₂.ids got₂.rowful, ids₂, new_long, few);
           }
 

@@ -1,5 +1,5 @@
 -- Entries taken up one after another, and held once more each. Assumes nothing.
-use Rattle.std.proofs.Common.{◌≡◌, ℕ, ◌+◌, ◌^◌, ◌<◌, ◌≤◌, Bool, true, false, List, [], ◌∷◌, ◌++◌, map, length, get_or, take, is_some, Some, None, Option, sym, refl, ap, ◌∙◌, subst, append_assoc, arith, length-append}
+use Rattle.std.proofs.Common.{◌≡◌, ℕ, ◌+◌, ◌^◌, ◌<◌, ◌≤◌, Bool, true, false, List, [], ◌∷◌, ◌++◌, map, length, get_or, take, Some, None, Option, sym, refl, ap, ◌∙◌, subst, append_assoc, arith, length-append}
 use lib.Count.{ones}
 use Rattle.std.proofs.lemmas.List.{length-map, length_push, map_push, append-nil, take_more, take_all, length-take-le}
 use Rattle.kinds.specs.Kinds.{KeyKind}
@@ -14,7 +14,7 @@ use Rattle.branches.specs.declared.handful.Handful.{Handful}
 use Rattle.branches.specs.Handfuls.{with_branch, Bundled}
 use Rattle.branches.proofs.Growing.{grown_none, grown_then, sits_same, entry_held_grown, entry_held_sits}
 use Rattle.branches.proofs.Bundles.{bundled_more, bundled_fits}
-use Rattle.edits.specs.Rowing.{Rowful, entries_in, beside, Keeping, EntriesKept, Adding, Added}
+use Rattle.edits.specs.Rowing.{Rowful, entries_in, beside, Keeping, EntriesKept, Added}
 
 -- ---- in hand
 
@@ -32,17 +32,23 @@ module _ (h : Handful) (ys : List ℕ) (R : Rowful h ys) where
       let e : length (map (λ (y : ℕ). true) ys) ≡ h.singles = digits_long ∙ sym rowful_count in
       (omega (arith, R.bundled.kids_are), (subst (λ (n : ℕ). h.datamap < 2 ^ n) e f.0, subst (λ (n : ℕ). h.nodemap < 2 ^ n) e f.1))
 
-  pub rowful_more : (e : EntryId) → h.singles < 16 → Rowful (with_branch h h.singles (Entry e)) (ys ++ (e.0 ∷ []))
-  rowful_more e l =
+  pub rowful_in : entries_in h ≡ ys
+  rowful_in = R.bundled.entries_are
+
+  pub rowful_itself : Rowful h (entries_in h)
+  rowful_itself = subst (Rowful h) (sym rowful_in) R
+
+  pub rowful_more : (e : EntryId) → h.singles < 16 → (next : Handful) → next ≡ with_branch h h.singles (Entry e) → Rowful next (ys ++ (e.0 ∷ []))
+  rowful_more e l next made =
       let B : Bundled (with_branch h (length (map (λ (y : ℕ). true) ys)) (Entry e)) (map (λ y. true) ys ++ (true ∷ [])) (map (λ y. false) ys ++ (false ∷ [])) (ys ++ (e.0 ∷ [])) [] =
       bundled_more h (map (λ y. true) ys) (map (λ y. false) ys) ys [] R.bundled (Entry e) l rowful_fits.0 in
-      record {
+      subst (λ (a : Handful). Rowful a (ys ++ (e.0 ∷ []))) (sym made) (record {
         bundled =
             subst (λ (n : ℕ). Bundled (with_branch h n (Entry e)) (map (λ y. true) (ys ++ (e.0 ∷ []))) (map (λ y. false) (ys ++ (e.0 ∷ []))) (ys ++ (e.0 ∷ [])) []) (digits_long ∙ sym rowful_count)
             (subst (λ (a : List Bool). Bundled (with_branch h (length (map (λ (y : ℕ). true) ys)) (Entry e)) a (map (λ y. false) (ys ++ (e.0 ∷ []))) (ys ++ (e.0 ∷ [])) []) (sym (map_push (λ y. true) ys e.0))
             (subst (λ (a : List Bool). Bundled (with_branch h (length (map (λ (y : ℕ). true) ys)) (Entry e)) (map (λ y. true) ys ++ (true ∷ [])) a (ys ++ (e.0 ∷ [])) []) (sym (map_push (λ y. false) ys e.0)) B));
         few = omega (arith, length_push ys e.0, rowful_count);
-      }
+      })
 
 -- ---- held
 
@@ -73,9 +79,6 @@ abbrev pub KeptTo :
 KeptTo K kb vb es f s xs hand j fs g t all = EntriesKept K kb vb es f s (take j xs) fs g t × Rowful all (entries_in hand ++ take j xs)
 
 module _ {X Y : Type 0} (K : KeyKind) (kb : X → List ℕ) (vb : Y → List ℕ) (es : List (EntryCell X Y)) (f s : ℕ) (xs : List ℕ) (hand : Handful) (P : Keeping K kb vb es f s xs hand) where
-  pub keep_start : KeptTo K kb vb es f s xs hand 0 es f s hand
-  keep_start = (kept_none K kb vb es f s, subst (Rowful hand) (sym (append-nil (entries_in hand))) P.rowful)
-
   module _ (j : ℕ) (fs : List (EntryCell X Y)) (g t : ℕ) (all : Handful) (I : KeptTo K kb vb es f s xs hand j fs g t all) where
     module _ (inside : j < length xs) where
       pub keep_held : 0 < (entry_cell fs (get_or xs j 0)).holders
@@ -92,36 +95,12 @@ module _ {X Y : Type 0} (K : KeyKind) (kb : X → List ℕ) (vb : Y → List ℕ
             (take j xs ++ P.in_hand, (H.entries, (omega (arith, length-append (take j xs) P.in_hand, so_far, P.few_in_hand), (H.nodes.short, λ i. (H.nodes.narrow i).0)))),
           )
 
-      pub keep_few : all.singles < 16
-      keep_few =
-          omega (arith, rowful_count all (entries_in hand ++ take j xs) I.1, length-append (entries_in hand) (take j xs), so_far, rowful_count hand (entries_in hand) P.rowful, P.room)
-
-      pub keep_fits : (all.kids < 16) × ((all.datamap < 2 ^ all.singles) × (all.nodemap < 2 ^ all.singles))
-      keep_fits = rowful_fits all (entries_in hand ++ take j xs) I.1
-
-      pub keep_step : (gs : List (EntryCell X Y)) (h u : ℕ) (e : EntryId) (next : Handful) → e.0 ≡ get_or xs j 0 → EntryHeld e.0 fs g t gs h u
-          → next ≡ with_branch all all.singles (Entry e) → KeptTo K kb vb es f s xs hand (j + 1) gs h u next
-      keep_step gs h u e next z done made =
-          let more : take (j + 1) xs ≡ take j xs ++ (e.0 ∷ []) = take_more xs j 0 inside ∙ ap (λ (x : ℕ). take j xs ++ (x ∷ [])) (sym z) in
-          let up : Rowful next ((entries_in hand ++ take j xs) ++ (e.0 ∷ [])) =
-          subst (λ (a : Handful). Rowful a ((entries_in hand ++ take j xs) ++ (e.0 ∷ []))) (sym made) (rowful_more all (entries_in hand ++ take j xs) I.1 e keep_few) in (
-            subst (λ (l : List ℕ). EntriesKept K kb vb es f s l gs h u) (sym more)
-                (kept_more K kb vb es f s (take j xs) fs g t I.0 e.0 (subst (λ (x : ℕ). 0 < (entry_cell fs x).holders) (sym z) keep_held) gs h u done),
-            subst (Rowful next) (append_assoc (entries_in hand) (take j xs) (e.0 ∷ []) ∙ ap (λ (l : List ℕ). entries_in hand ++ l) (sym more)) up,
+      pub keep_step : (gs : List (EntryCell X Y)) (h u e : ℕ) (next : Handful) → e ≡ get_or xs j 0 → EntryHeld e fs g t gs h u
+          → Rowful next (entries_in all ++ (e ∷ [])) → KeptTo K kb vb es f s xs hand (j + 1) gs h u next
+      keep_step gs h u e next z done up =
+          let more : take j xs ++ (e ∷ []) ≡ take (j + 1) xs = sym (take_more xs j 0 inside ∙ ap (λ (x : ℕ). take j xs ++ (x ∷ [])) (sym z)) in (
+            subst (λ (l : List ℕ). EntriesKept K kb vb es f s l gs h u) more
+                (kept_more K kb vb es f s (take j xs) fs g t I.0 e (subst (λ (x : ℕ). 0 < (entry_cell fs x).holders) (sym z) keep_held) gs h u done),
+            subst (Rowful next)
+                (ap (λ (l : List ℕ). l ++ (e ∷ [])) (rowful_in all (entries_in hand ++ take j xs) I.1) ∙ append_assoc (entries_in hand) (take j xs) (e ∷ []) ∙ ap (λ (l : List ℕ). entries_in hand ++ l) more) up,
           )
-
-    pub keep_end : length xs ≤ j → EntriesKept K kb vb es f s xs fs g t × Rowful all (entries_in hand ++ xs)
-    keep_end past = subst (λ (l : List ℕ). EntriesKept K kb vb es f s l fs g t × Rowful all (entries_in hand ++ l)) (take_all j xs past) I
-
--- ---- a new entry
-
-module _ {X Y : Type 0} (key : X) (value : Option Y) (hand : Handful) (es : List (EntryCell X Y)) (f s : ℕ) (P : Adding es f s value hand) where
-  pub added_some :
-      (new : Y) → value ≡ Some new → (e : EntryId) (next : Handful) (fs : List (EntryCell X Y)) (g t : ℕ) → EntryMade e.0 (record { held = Some (key, new); holders = 1; next = 0 }) es f s fs g t
-      → next ≡ with_branch hand hand.singles (Entry e) → Added key value hand es f s next fs g t
-  added_some new is e next fs g t done made =
-      subst (λ (v : Option Y). Added key v hand es f s next fs g t) (sym is)
-      (e.0, (done, subst (λ (a : Handful). Rowful a (entries_in hand ++ (e.0 ∷ []))) (sym made) (rowful_more hand (entries_in hand) P.rowful e (P.room (ap is_some is)))))
-
-  pub added_none : value ≡ None → Added key value hand es f s hand es f s
-  added_none is = subst (λ (v : Option Y). Added key v hand es f s hand es f s) (sym is) (refl, (refl, (refl, refl)))

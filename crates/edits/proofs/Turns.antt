@@ -3,7 +3,7 @@ use Rattle.std.proofs.Common.{◌≡◌, ℕ, suc, ◌+◌, ◌-◌, ◌*◌, �
 use Rattle.std.specs.List.{range_with_len}
 use Rattle.std.proofs.lemmas.List.FromFn.{length-map-range_with_len, map-range_with_len_more}
 use Rattle.std.proofs.lemmas.List.{length_push}
-use Rattle.std.proofs.lemmas.Bool.{eq-eqb, ne_eqb, lt-ltb, cond-true, and_from}
+use Rattle.std.proofs.lemmas.Bool.{eq-eqb, eqb-true, eqb-false, ne_eqb, lt-ltb, cond-true, and_from}
 use Rattle.kinds.specs.Kinds.{KeyKind, ValueKind}
 use Rattle.model.specs.Maps.{Map, look, same_found}
 use Rattle.model.specs.Tries.{digit, leads, at_digit, one, many, sixteen}
@@ -29,6 +29,14 @@ use Rattle.branches.proofs.Bundles.{bundled_none, bundled_more, bundled_few, bun
 use Rattle.branches.proofs.Gathering.{bushy_many, gathered_none, gathered_clear, gathered_more}
 use Rattle.edits.specs.Sets.{Ready, Done, ValueReads}
 use Rattle.edits.specs.Turns.{portion_at, result, Progress, Underway}
+
+-- ---- digits compared
+
+pub same_digit : (g d : ℕ) (r : Bool) → r ≡ eqb g d → r ≡ true → g ≡ d
+same_digit g d r e t = eqb-true g d (sym e ∙ t)
+
+pub other_digit : (g d : ℕ) (r : Bool) → r ≡ eqb g d → r ≡ false → g ≡ d → ⊥
+other_digit g d r e t = eqb-false g d (sym e ∙ t)
 
 -- ---- a branch says how many settings a part has
 

@@ -1,5 +1,5 @@
 // A part at the deepest level, one key of it set: a row of at most sixteen entries by rising key.
-ghost use Rattle.std.specs.Prelude.{◌≡◌, ◌++◌, length, All, IfSome};
+ghost use Rattle.std.specs.Prelude.{◌≡◌, ◌<◌, [], ◌∷◌, ◌++◌, length, All, IfSome};
 ghost use Rattle.std.specs.List.Sorted.{IsSearchInRange};
 ghost use Rattle.model.specs.Maps.{same_found};
 ghost use Rattle.tables.specs.Cells.{singles};
@@ -66,6 +66,18 @@ fn split_row<'a, K: Key, V: Value>(
     }
 }
 
+// Takes an entry up, after those that are in hand.
+fn take_next(hand: Handful, id: EntryId) -> Handful
+    requires row { Rowful hand (entries_in hand) }
+    requires room { hand.singles < 16 }
+    ensures { Rowful result (entries_in hand ++ (id.0 ∷ [])) }
+{
+    let next = Digit {
+        number: hand.singles as u8,
+    };
+    take_up(hand, next, Branch::Entry(id))
+}
+
 // Holds the entries of a row once more each, and takes them up.
 fn keep_row<K: Key, V: Value>(entries: &mut EntryTable<K, V>, row: &[u16], hand: Handful) -> Handful
     requires { Keeping K.Key.kind K.Key.bytes V.Value.bytes entries.old.cells.now entries.old.free entries.old.spare row.now hand }
@@ -76,10 +88,7 @@ fn keep_row<K: Key, V: Value>(entries: &mut EntryTable<K, V>, row: &[u16], hand:
     for entry in row {
         let id = EntryId(*entry);
         hold_entry(entries, id);
-        let next = Digit {
-            number: all.singles as u8,
-        };
-        all = take_up(all, next, Branch::Entry(id));
+        all = take_next(all, id);
     }
     all
 }
@@ -95,13 +104,7 @@ fn take_new<K: Key, V: Value>(
     ensures { Added key.now value hand entries.old.cells.now entries.old.free entries.old.spare result entries.new.cells.now entries.new.free entries.new.spare }
 {
     match value {
-        Some(new) => {
-            let id = make_entry(entries, *key, new);
-            let next = Digit {
-                number: hand.singles as u8,
-            };
-            take_up(hand, next, Branch::Entry(id))
-        }
+        Some(new) => take_next(hand, make_entry(entries, *key, new)),
         None => hand,
     }
 }

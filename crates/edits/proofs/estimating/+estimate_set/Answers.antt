@@ -1,5 +1,5 @@
-use Rattle.std.proofs.Common.{◌<◌, sym, ◌∙◌, arith}
-use Rattle.std.proofs.lemmas.Bool.{eqb-true, eqb-false}
+use Rattle.std.proofs.Common.{◌<◌, arith}
+use Rattle.edits.proofs.Turns.{same_digit, other_digit}
 use Rattle.edits.proofs.Singles.{told_alone}
 use Rattle.edits.proofs.Estimates.{child_seen, digit_at, digit_set, digit_kept, addable, summed_on, close_few, estimated_whole}
 use Rattle.edits.proofs.estimating.+estimate_set.Goals as goal
@@ -17,7 +17,7 @@ estimate_set-new-requires g t c κs within =
         (
           within.1,
           child_seen _ _ _ _ _ _ _ _ _ c.requires tall _ (omega arith) _ c.at_digit-old.ensures
-              (digit_at _ _ _ _ _ _ _ _ _ c.requires _ _ _ c.hash.ensures c.digit_of-digit.ensures (eqb-true _ _ (sym c.eq.ensures ∙ c.if-eq.true))),
+              (digit_at _ _ _ _ _ _ _ _ _ c.requires _ _ _ c.hash.ensures c.digit_of-digit.ensures (same_digit _ _ _ c.eq.ensures c.if-eq.true)),
         ),
       ),
     )
@@ -28,10 +28,10 @@ and-sum-requires g t c =
     elim c.if-eq.branch [
       | then-eq w ↦
           addable _ _ _ _ _ _ _ _ _ tall _ _ c.loop-number.invariant _
-          (digit_set _ _ _ _ _ _ _ _ _ tall _ (omega arith) _ c.at_digit-old.ensures _ _ c.hash.ensures c.digit_of-digit.ensures (eqb-true _ _ (sym c.eq.ensures ∙ w.if-eq.true)) _ _ w.new-is w.estimate_set-new.ensures) (omega arith) c.requires
+          (digit_set _ _ _ _ _ _ _ _ _ tall _ (omega arith) _ c.at_digit-old.ensures _ _ c.hash.ensures c.digit_of-digit.ensures (same_digit _ _ _ c.eq.ensures w.if-eq.true) _ _ w.new-is w.estimate_set-new.ensures) (omega arith) c.requires
       | else-eq w ↦
           addable _ _ _ _ _ _ _ _ _ tall _ _ c.loop-number.invariant _
-          (digit_kept _ _ _ _ _ _ _ _ _ tall _ (omega arith) _ c.at_digit-old.ensures _ _ c.hash.ensures c.digit_of-digit.ensures (eqb-false _ _ (sym c.eq.ensures ∙ w.if-eq.false)) _ _ w.new-is w.of_kept-new.ensures) (omega arith) c.requires
+          (digit_kept _ _ _ _ _ _ _ _ _ tall _ (omega arith) _ c.at_digit-old.ensures _ _ c.hash.ensures c.digit_of-digit.ensures (other_digit _ _ _ c.eq.ensures w.if-eq.false) _ _ w.new-is w.of_kept-new.ensures) (omega arith) c.requires
     ]
 
 pub loop-number-preserved : goal.loop-number-preserved
@@ -40,10 +40,10 @@ loop-number-preserved g t c =
     elim c.if-eq.branch [
       | then-eq w ↦
           summed_on _ _ _ _ _ _ _ _ _ tall _ _ c.loop-number.invariant _
-          (digit_set _ _ _ _ _ _ _ _ _ tall _ (omega arith) _ c.at_digit-old.ensures _ _ c.hash.ensures c.digit_of-digit.ensures (eqb-true _ _ (sym c.eq.ensures ∙ w.if-eq.true)) _ _ w.new-is w.estimate_set-new.ensures) _ c.and-sum.ensures
+          (digit_set _ _ _ _ _ _ _ _ _ tall _ (omega arith) _ c.at_digit-old.ensures _ _ c.hash.ensures c.digit_of-digit.ensures (same_digit _ _ _ c.eq.ensures w.if-eq.true) _ _ w.new-is w.estimate_set-new.ensures) _ c.and-sum.ensures
       | else-eq w ↦
           summed_on _ _ _ _ _ _ _ _ _ tall _ _ c.loop-number.invariant _
-          (digit_kept _ _ _ _ _ _ _ _ _ tall _ (omega arith) _ c.at_digit-old.ensures _ _ c.hash.ensures c.digit_of-digit.ensures (eqb-false _ _ (sym c.eq.ensures ∙ w.if-eq.false)) _ _ w.new-is w.of_kept-new.ensures) _ c.and-sum.ensures
+          (digit_kept _ _ _ _ _ _ _ _ _ tall _ (omega arith) _ c.at_digit-old.ensures _ _ c.hash.ensures c.digit_of-digit.ensures (other_digit _ _ _ c.eq.ensures w.if-eq.false) _ _ w.new-is w.of_kept-new.ensures) _ c.and-sum.ensures
     ]
 
 pub close-requires : goal.close-requires

@@ -1,9 +1,8 @@
-use Rattle.std.proofs.Common.{◌<◌, sym, refl, ap, ◌∙◌, arith}
-use Rattle.std.proofs.lemmas.Bool.{eqb-true, eqb-false}
+use Rattle.std.proofs.Common.{◌<◌, refl, ap, arith}
 use Rattle.branches.specs.States.{tables_of}
 use Rattle.edits.specs.Sets.{value_bytes}
 use Rattle.edits.proofs.Alone.{entry_room, done_some, done_none}
-use Rattle.edits.proofs.Turns.{underway_none, some_part, child_ready, stays, slots_left, bits_left, digit_at, underway_set, underway_kept}
+use Rattle.edits.proofs.Turns.{same_digit, other_digit, underway_none, some_part, child_ready, stays, slots_left, bits_left, digit_at, underway_set, underway_kept}
 use Rattle.edits.proofs.Wholes.{ready_whole, done_whole}
 use Rattle.edits.proofs.setting.+set.Goals as goal
 use Rattle.edits.proofs.setting.+set.Goals.{then-eq, else-eq, in-Some, in-None}
@@ -45,7 +44,7 @@ set-new-requires g t c κs within =
         (
           within.1,
           child_ready _ _ _ _ _ _ _ _ _ c.requires tall _ _ _ (c.loop-number.invariant.so_far c.requires tall) (omega arith) _ c.at_digit-old.ensures
-              (digit_at _ _ _ _ _ _ _ _ _ c.requires _ _ _ c.hash.ensures c.digit_of-digit.ensures (eqb-true _ _ (sym c.eq.ensures ∙ c.if-eq.true))),
+              (digit_at _ _ _ _ _ _ _ _ _ c.requires _ _ _ c.hash.ensures c.digit_of-digit.ensures (same_digit _ _ _ c.eq.ensures c.if-eq.true)),
         ),
       ),
     )
@@ -67,10 +66,10 @@ loop-number-preserved g t c =
     elim c.if-eq.branch [
       | then-eq w ↦
           underway_set _ _ _ _ _ _ _ _ _ _ _ _ c.loop-number.invariant (omega arith) _ c.at_digit-old.ensures _ _ _ c.hash.ensures c.digit_of-digit.ensures _
-          (eqb-true _ _ (sym c.eq.ensures ∙ w.if-eq.true)) _ _ w.new-is _ (ap tables_of w.tables-is) w.set-new.ensures c.take_up-hand.ensures
+          (same_digit _ _ _ c.eq.ensures w.if-eq.true) _ _ w.new-is _ (ap tables_of w.tables-is) w.set-new.ensures c.take_up-hand.ensures
       | else-eq w ↦
           underway_kept _ _ _ _ _ _ _ _ _ _ _ _ c.loop-number.invariant (omega arith) _ c.at_digit-old.ensures _ _ _ c.hash.ensures c.digit_of-digit.ensures _
-          (eqb-false _ _ (sym c.eq.ensures ∙ w.if-eq.false)) _ w.new-is _ (ap tables_of w.tables-is) w.keep.ensures c.take_up-hand.ensures
+          (other_digit _ _ _ c.eq.ensures w.if-eq.false) _ w.new-is _ (ap tables_of w.tables-is) w.keep.ensures c.take_up-hand.ensures
     ]
 
 pub assemble-requires : goal.assemble-requires
