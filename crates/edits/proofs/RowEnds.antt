@@ -1,5 +1,6 @@
 -- A row's result in hand as a branch: nothing, one entry or a collision node. Assumes nothing.
 use Rattle.std.proofs.Common.{◌≡◌, ℕ, ◌<◌, ◌≤◌, true, ltb, List, [], ◌∷◌, ◌++◌, map, length, get_or, take, None, sym, refl, ap, ◌∙◌, subst, inl, inr, arith}
+use lib.Count.{ones}
 use Rattle.std.proofs.lemmas.List.{length-map, nil_from_length, append-nil}
 use Rattle.std.proofs.lemmas.Bool.{or_cases, ltb-true}
 use Rattle.kinds.specs.Kinds.{KeyKind}
@@ -15,7 +16,6 @@ use Rattle.plans.specs.Plans.{portion}
 use Rattle.plans.proofs.Sharing.{share_new_leaf, portion_one, portion_many}
 use Rattle.branches.specs.declared.branch.Branch.{Branch}
 use Rattle.branches.specs.declared.branch.Branch.TheVariants.{Nothing, Entry, Child}
-use Rattle.branches.specs.declared.handful.Handful.{Handful}
 use Rattle.branches.specs.States.{Tables, Notes, Sits, Clear, Under, Led}
 use Rattle.branches.specs.Branches.{part_of, Built}
 use Rattle.branches.specs.Handfuls.{makes_node, node_cell, Assembling, Assembled}
@@ -37,7 +37,7 @@ one_in [] ids e h = absurd (omega (arith, ap length e))
 one_in (x ∷ l) ids e h = sym e
 
 -- what is in hand has no child
-module _ (h : Handful) (ids : List ℕ) (R : Rowful h ids) where
+module _ (h : NodeCell) (ids : List ℕ) (R : Rowful h ids) where
   digits_few : length (map (λ (y : ℕ). true) ids) ≤ 16
   digits_few = omega (arith, digits_long h ids R, R.few)
 
@@ -49,9 +49,9 @@ module _ (h : Handful) (ids : List ℕ) (R : Rowful h ids) where
 
   several_ids : makes_node h 0 ≡ true → 1 < length ids
   several_ids e =
-      elim (or_cases (ltb 0 h.kids) (ltb 1 h.singles) e) [
-        | inl a ↦ absurd (omega (arith, ltb-true 0 h.kids a, R.bundled.kids_are))
-        | inr a ↦ omega (arith, ltb-true 1 h.singles a, rowful_count h ids R)
+      elim (or_cases (ltb 0 (ones h.nodemap)) (ltb 1 (ones h.datamap)) e) [
+        | inl a ↦ absurd (omega (arith, ltb-true 0 (ones h.nodemap) a, R.bundled.kids_are))
+        | inr a ↦ omega (arith, ltb-true 1 (ones h.datamap) a, rowful_count h ids R)
       ]
 
 -- what a new row takes
@@ -70,7 +70,7 @@ leaf_entries K n p ss (s ∷ []) none = ap (λ (q : Shared). q.new_entries) (por
 leaf_entries K n p ss (s ∷ (t ∷ m)) none = leaf_entries_many K n p ss (s ∷ (t ∷ m)) none (omega arith)
 
 module _ {X Y : Type 0} (K : KeyKind) (kb : X → List ℕ) (vb : Y → List ℕ) (n : ℕ) (p : List ℕ) (a : Part) (m : Map) (T : Tables X Y) (N : Notes) (R E : List ℕ)
-    (k : List ℕ) (led : Led K p k) (none : first_same (a ∷ []) m ≡ None) (hand : Handful) (U : Tables X Y) (G : Got K kb vb n p a m T N R E (λ y. y ≡ k) m hand U) where
+    (k : List ℕ) (led : Led K p k) (none : first_same (a ∷ []) m ≡ None) (hand : NodeCell) (U : Tables X Y) (G : Got K kb vb n p a m T N R E (λ y. y ≡ k) m hand U) where
   ids_long : length G.ids ≡ length m
   ids_long = sym (length-map G.ids (λ e. (G.in_hand.notes.entry e).setting)) ∙ ap length G.in_hand.settings_are
 
@@ -85,7 +85,7 @@ module _ {X Y : Type 0} (K : KeyKind) (kb : X → List ℕ) (vb : Y → List ℕ
 
   -- ---- nothing
 
-  built_nothing : hand.singles ≡ 0 → Built K kb vb n 0 p m (portion K n 0 p (a ∷ []) m) T N R E Nothing U
+  built_nothing : (ones hand.datamap) ≡ 0 → Built K kb vb n 0 p m (portion K n 0 p (a ∷ []) m) T N R E Nothing U
   built_nothing z =
       let M = G.in_hand.notes in
       let none_in : G.ids ≡ [] = nil_from_length G.ids (omega (arith, rowful_count hand G.ids G.rowful)) in
@@ -101,7 +101,7 @@ module _ {X Y : Type 0} (K : KeyKind) (kb : X → List ℕ) (vb : Y → List ℕ
 
   -- ---- one entry
 
-  built_entry : (e : EntryId) → hand.singles ≡ 1 → e.0 ≡ get_or hand.entries 0 0 → Built K kb vb n 0 p m (portion K n 0 p (a ∷ []) m) T N R E (Entry e) U
+  built_entry : (e : EntryId) → (ones hand.datamap) ≡ 1 → e.0 ≡ get_or hand.entries 0 0 → Built K kb vb n 0 p m (portion K n 0 p (a ∷ []) m) T N R E (Entry e) U
   built_entry e z w =
       let M = G.in_hand.notes in
       let s : Setting = (M.entry e.0).setting in

@@ -17,7 +17,7 @@ use Rattle.tables.specs.Notes.{EntryNote}
 use Rattle.tables.proofs.Occurrences.{occ_nil, occ_head, occ_later, occ_rest, occ_append}
 use Rattle.tables.proofs.Noting.{noted_same}
 use Rattle.tables.proofs.Rows.{map_same}
-use Rattle.branches.specs.declared.handful.Handful.{Handful}
+use Rattle.tables.specs.declared.cells.NodeCell.{NodeCell}
 use Rattle.branches.specs.States.{Tables, Notes, Sits, Clear, Under, Led}
 use Rattle.branches.specs.Hands.{Hand}
 use Rattle.branches.specs.Handfuls.{nothing_in_hand}
@@ -47,7 +47,7 @@ No q = ⊥
 
 module _ {X Y : Type 0} (K : KeyKind) (kb : X → List ℕ) (vb : Y → List ℕ) (n : ℕ) (p : List ℕ) (a : Part) (m : Map) (T : Tables X Y) (N : Notes) (R E : List ℕ) where
   -- some settings of the result m are in hand as entries, in tables that have grown by nodes nowhere and entries of keys of which Q holds
-  pub record Got (Q : List ℕ → Type 0) (own : Map) (hand : Handful) (U : Tables X Y) : Type 0 where
+  pub record Got (Q : List ℕ → Type 0) (own : Map) (hand : NodeCell) (U : Tables X Y) : Type 0 where
     pub ids : List ℕ
     pub rowful : Rowful hand ids
     pub in_hand : Hand K kb vb n 0 p (a ∷ []) m T N R E No Q own [] ids [] U
@@ -80,7 +80,7 @@ module _ {X Y : Type 0} (K : KeyKind) (kb : X → List ℕ) (vb : Y → List ℕ
 
       got_some :
           (m' : Map) → map setting ys ≡ m'
-          → (Q : List ℕ → Type 0) (own : Map) (hand : Handful) (U : Tables X Y) (G : Got Q own hand U) (next : Handful) (fs : List (EntryCell X Y)) (g t : ℕ)
+          → (Q : List ℕ → Type 0) (own : Map) (hand : NodeCell) (U : Tables X Y) (G : Got Q own hand U) (next : NodeCell) (fs : List (EntryCell X Y)) (g t : ℕ)
           → EntriesKept K kb vb U.entries U.entry_free U.entry_spare ys fs g t → Rowful next (entries_in hand ++ ys) → Got Q (own ++ m') next (beside U fs g t)
       got_some m' is Q own hand U G next fs g t kept up =
           let M = G.in_hand.notes in
@@ -103,14 +103,14 @@ module _ {X Y : Type 0} (K : KeyKind) (kb : X → List ℕ) (vb : Y → List ℕ
 
     module _ (j : ℕ) (ys : List ℕ) where
       pub got_before : ys ≡ take j xs
-          → (Q : List ℕ → Type 0) (own : Map) (hand : Handful) (U : Tables X Y) (G : Got Q own hand U) (next : Handful) (fs : List (EntryCell X Y)) (g t : ℕ)
+          → (Q : List ℕ → Type 0) (own : Map) (hand : NodeCell) (U : Tables X Y) (G : Got Q own hand U) (next : NodeCell) (fs : List (EntryCell X Y)) (g t : ℕ)
           → EntriesKept K kb vb U.entries U.entry_free U.entry_spare ys fs g t → Rowful next (entries_in hand ++ ys) → Got Q (own ++ take j a.settings) next (beside U fs g t)
       got_before e =
           got_some ys (subst (AllByRecursion (λ e. Mem e xs)) (sym e) (All-take (λ e. Mem e xs) j xs themselves))
           (take j a.settings) (ap (map setting) e ∙ sym (take-map setting j xs) ∙ ap (take j) W.settings)
 
       pub got_after : ys ≡ drop j xs
-          → (Q : List ℕ → Type 0) (own : Map) (hand : Handful) (U : Tables X Y) (G : Got Q own hand U) (next : Handful) (fs : List (EntryCell X Y)) (g t : ℕ)
+          → (Q : List ℕ → Type 0) (own : Map) (hand : NodeCell) (U : Tables X Y) (G : Got Q own hand U) (next : NodeCell) (fs : List (EntryCell X Y)) (g t : ℕ)
           → EntriesKept K kb vb U.entries U.entry_free U.entry_spare ys fs g t → Rowful next (entries_in hand ++ ys) → Got Q (own ++ drop j a.settings) next (beside U fs g t)
       got_after e =
           got_some ys (subst (AllByRecursion (λ e. Mem e xs)) (sym e) (All-drop (λ e. Mem e xs) j xs themselves))
@@ -118,7 +118,7 @@ module _ {X Y : Type 0} (K : KeyKind) (kb : X → List ℕ) (vb : Y → List ℕ
 
   -- ---- a new entry
 
-  got_wider : (Q Q' : List ℕ → Type 0) (own : Map) (hand : Handful) (U : Tables X Y) → ((k : List ℕ) → Q k → Q' k) → Got Q own hand U → Got Q' own hand U
+  got_wider : (Q Q' : List ℕ → Type 0) (own : Map) (hand : NodeCell) (U : Tables X Y) → ((k : List ℕ) → Q k → Q' k) → Got Q own hand U → Got Q' own hand U
   got_wider Q Q' own hand U w G =
       let H = G.in_hand in
       record {
@@ -138,7 +138,7 @@ module _ {X Y : Type 0} (K : KeyKind) (kb : X → List ℕ) (vb : Y → List ℕ
         };
       }
 
-  module _ (clear : Clear n (Under p) (Led K p) T N) (key : X) (led : Led K p (kb key)) (own : Map) (hand : Handful) (U : Tables X Y) (G : Got No own hand U) where
+  module _ (clear : Clear n (Under p) (Led K p) T N) (key : X) (led : Led K p (kb key)) (own : Map) (hand : NodeCell) (U : Tables X Y) (G : Got No own hand U) where
     -- no entry of this call has the key yet
     fresh : (e : ℕ) → 0 < (entry_cell U.entries e).holders → (G.in_hand.notes.entry e).label ≡ record { what = kb key; mark = n } → ⊥
     fresh e h z =
@@ -146,7 +146,7 @@ module _ {X Y : Type 0} (K : KeyKind) (kb : X → List ℕ) (vb : Y → List ℕ
         (subst (Led K p) (ap (λ (x : Marked). x.what) (sym z)) led)
 
     got_made :
-        (v : Y) → (look a.settings (kb key) ≡ Some (vb v) → ⊥) → (next : Handful) (fs : List (EntryCell X Y)) (g t : ℕ) (e : ℕ)
+        (v : Y) → (look a.settings (kb key) ≡ Some (vb v) → ⊥) → (next : NodeCell) (fs : List (EntryCell X Y)) (g t : ℕ) (e : ℕ)
         → EntryMade e (record { held = Some (key, v); holders = 1; next = 0 }) U.entries U.entry_free U.entry_spare fs g t → Rowful next (entries_in hand ++ (e ∷ []))
         → Got (λ y. y ≡ kb key) (own ++ (record { key = kb key; value = vb v } ∷ [])) next (beside U fs g t)
     got_made v other next fs g t e done up =
@@ -168,14 +168,14 @@ module _ {X Y : Type 0} (K : KeyKind) (kb : X → List ℕ) (vb : Y → List ℕ
 
     -- with the entry of the value, if there is one
     pub got_new :
-        (value : Option Y) → (look a.settings (kb key) ≡ value_bytes vb value → ⊥) → (next : Handful) (fs : List (EntryCell X Y)) (g t : ℕ)
+        (value : Option Y) → (look a.settings (kb key) ≡ value_bytes vb value → ⊥) → (next : NodeCell) (fs : List (EntryCell X Y)) (g t : ℕ)
         → Added key value hand U.entries U.entry_free U.entry_spare next fs g t
         → Got (λ y. y ≡ kb key) (own ++ lone (kb key) (value_bytes vb value)) next (beside U fs g t)
     got_new (Some v) other next fs g t done = got_made v other next fs g t done.0 done.1.0 done.1.1
     got_new None other next fs g t done =
         let Q : List ℕ → Type 0 = λ y. y ≡ kb key in
         subst (λ (o : Map). Got Q o next (beside U fs g t)) (sym (append-nil own))
-        (subst (λ (h : Handful). Got Q own h (beside U fs g t)) (sym done.0)
+        (subst (λ (h : NodeCell). Got Q own h (beside U fs g t)) (sym done.0)
         (subst (λ (es : List (EntryCell X Y)). Got Q own hand (beside U es g t)) (sym done.1.0)
         (subst (λ (i : ℕ). Got Q own hand (beside U U.entries i t)) (sym done.1.1.0)
         (subst (λ (i : ℕ). Got Q own hand (beside U U.entries U.entry_free i)) (sym done.1.1.1) (got_wider No Q own hand U (λ k z. absurd z) G)))))

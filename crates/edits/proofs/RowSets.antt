@@ -1,5 +1,6 @@
 -- One key of a row is set: what each step may take for granted, and what is built. Assumes nothing.
 use Rattle.std.proofs.Common.{◌≡◌, ℕ, ◌+◌, ◌<◌, ◌≤◌, true, cond, List, [], ◌∷◌, ◌++◌, length, get_or, take, drop, is_some, Some, None, All, Option, sym, refl, ap, ◌∙◌, subst, append_assoc, arith, length-append, length-drop}
+use lib.Count.{ones}
 use Rattle.std.proofs.lemmas.List.{length-map, length-take-le}
 use Rattle.std.proofs.lemmas.List.Elements.{All-take, All-drop}
 use Rattle.std.proofs.lemmas.Bool.{cond-false, both_ways}
@@ -15,7 +16,6 @@ use Rattle.tables.specs.Cells.{entry_cell}
 use Rattle.plans.specs.Plans.{edited, portion}
 use Rattle.plans.proofs.Crowds.{crowd_deepest}
 use Rattle.branches.specs.declared.branch.Branch.{Branch}
-use Rattle.branches.specs.declared.handful.Handful.{Handful}
 use Rattle.branches.specs.States.{Tables}
 use Rattle.branches.specs.Branches.{Built, SomeEntry}
 use Rattle.branches.specs.Handfuls.{nothing_in_hand, Assembling, Assembled}
@@ -114,7 +114,8 @@ module _ {X Y : Type 0} (K : KeyKind) (V : ValueKind) (kb : X → List ℕ) (vb 
 
       -- ---- what comes before
 
-      pub set_keeps : (h₀ : Handful) → h₀ ≡ nothing_in_hand → Keeping K kb vb T.entries T.entry_free T.entry_spare ys h₀
+      pub set_keeps : (h₀ : NodeCell) → h₀ ≡ nothing_in_hand → Keeping K kb vb T.entries T.entry_free T.entry_spare ys h₀
+      unfolding ones
       set_keeps h₀ e = subst (Keeping K kb vb T.entries T.entry_free T.entry_spare ys) (sym e) record {
         tables = T;
         notes = q.notes;
@@ -127,15 +128,16 @@ module _ {X Y : Type 0} (K : KeyKind) (V : ValueKind) (kb : X → List ℕ) (vb 
         room = omega (arith, new_long, few);
       }
 
-      module _ (h₀ : Handful) (e₀ : h₀ ≡ nothing_in_hand) (h₁ : Handful) (es₁ : List (EntryCell X Y)) (f₁ s₁ : ℕ) (kept₁ : EntriesKept K kb vb T.entries T.entry_free T.entry_spare ys es₁ f₁ s₁)
+      module _ (h₀ : NodeCell) (e₀ : h₀ ≡ nothing_in_hand) (h₁ : NodeCell) (es₁ : List (EntryCell X Y)) (f₁ s₁ : ℕ) (kept₁ : EntriesKept K kb vb T.entries T.entry_free T.entry_spare ys es₁ f₁ s₁)
           (up₁ : Rowful h₁ (entries_in h₀ ++ ys)) where
         got₁ : Got K kb vb q.call q.prefix q.source new T q.notes q.roots q.in_hand No (take at old) h₁ (beside T es₁ f₁ s₁)
+        unfolding ones
         got₁ =
             got_before K kb vb q.call q.prefix q.source new T q.notes q.roots q.in_hand q.sits xs says q.sound.rises at ys F.before_are
             No [] nothing_in_hand T (got_none K kb vb q.call q.prefix q.source new T q.notes q.roots q.in_hand q.sits) h₁ es₁ f₁ s₁ kept₁
-            (subst (λ (h : Handful). Rowful h₁ (entries_in h ++ ys)) e₀ up₁)
+            (subst (λ (h : NodeCell). Rowful h₁ (entries_in h ++ ys)) e₀ up₁)
 
-        ids₁ : h₁.singles ≡ at
+        ids₁ : ones h₁.datamap ≡ at
         ids₁ =
             rowful_count h₁ got₁.ids got₁.rowful ∙ sym (length-map got₁.ids (λ e. (got₁.in_hand.notes.entry e).setting)) ∙ ap length got₁.in_hand.settings_are ∙ before_long
 
@@ -162,7 +164,7 @@ module _ {X Y : Type 0} (K : KeyKind) (V : ValueKind) (kb : X → List ℕ) (vb 
           room = λ e. omega (arith, ids₁, ys_long, few, new_long, lone_some k vb value e);
         }
 
-        module _ (h₂ : Handful) (es₂ : List (EntryCell X Y)) (f₂ s₂ : ℕ) (added : Added key value h₁ es₁ f₁ s₁ h₂ es₂ f₂ s₂) where
+        module _ (h₂ : NodeCell) (es₂ : List (EntryCell X Y)) (f₂ s₂ : ℕ) (added : Added key value h₁ es₁ f₁ s₁ h₂ es₂ f₂ s₂) where
           got₂ : Got K kb vb q.call q.prefix q.source new T q.notes q.roots q.in_hand (λ y. y ≡ kb key) (take at old ++ lone k x) h₂ (beside T es₂ f₂ s₂)
           got₂ =
               got_new K kb vb q.call q.prefix q.source new T q.notes q.roots q.in_hand q.clear key q.led (take at old) h₁ (beside T es₁ f₁ s₁) got₁
@@ -191,7 +193,7 @@ module _ {X Y : Type 0} (K : KeyKind) (V : ValueKind) (kb : X → List ℕ) (vb 
             room = omega (arith, rowful_count h₂ got₂.ids got₂.rowful, ids₂, new_long, few);
           }
 
-          module _ (h₃ : Handful) (es₃ : List (EntryCell X Y)) (f₃ s₃ : ℕ) (kept₃ : EntriesKept K kb vb es₂ f₂ s₂ zs es₃ f₃ s₃) (up₃ : Rowful h₃ (entries_in h₂ ++ zs)) where
+          module _ (h₃ : NodeCell) (es₃ : List (EntryCell X Y)) (f₃ s₃ : ℕ) (kept₃ : EntriesKept K kb vb es₂ f₂ s₂ zs es₃ f₃ s₃) (up₃ : Rowful h₃ (entries_in h₂ ++ zs)) where
             got₃ : Got K kb vb q.call q.prefix q.source new T q.notes q.roots q.in_hand (λ y. y ≡ kb key) new h₃ (beside T es₃ f₃ s₃)
             got₃ =
                 subst (λ (l : Map). Got K kb vb q.call q.prefix q.source new T q.notes q.roots q.in_hand (λ y. y ≡ kb key) l h₃ (beside T es₃ f₃ s₃))

@@ -1,35 +1,34 @@
 -- Entries taken up one after another, and held once more each. Assumes nothing.
-use Rattle.std.proofs.Common.{◌≡◌, ℕ, ◌+◌, ◌^◌, ◌<◌, ◌≤◌, Bool, true, false, List, [], ◌∷◌, ◌++◌, map, length, get_or, take, Some, None, Option, sym, refl, ap, ◌∙◌, subst, append_assoc, arith, length-append}
+use Rattle.std.proofs.Common.{◌≡◌, ℕ, ◌+◌, ◌^◌, ◌<◌, ◌≤◌, Bool, true, false, List, [], ◌∷◌, ◌++◌, map, length, get_or, take, sym, refl, ap, ◌∙◌, subst, append_assoc, arith, length-append}
 use lib.Count.{ones}
-use Rattle.std.proofs.lemmas.List.{length-map, length_push, map_push, append-nil, take_more, take_all, length-take-le}
+use Rattle.std.proofs.lemmas.List.{length-map, length_push, map_push, take_more, length-take-le}
 use Rattle.kinds.specs.Kinds.{KeyKind}
 use Rattle.tables.specs.declared.cells.NodeCell.{NodeCell}
 use Rattle.tables.specs.declared.cells.EntryCell.{EntryCell}
 use Rattle.tables.specs.declared.cells.EntryId.{EntryId}
-use Rattle.tables.specs.Heaps.{Entries, EntryHeld, EntryMade}
+use Rattle.tables.specs.Heaps.{Entries, EntryHeld}
 use Rattle.tables.specs.Cells.{cell, entry_cell}
 use Rattle.tables.proofs.Occurrences.{occ_nil, occ_cons, occ_append}
 use Rattle.branches.specs.declared.branch.Branch.TheVariants.{Entry}
-use Rattle.branches.specs.declared.handful.Handful.{Handful}
 use Rattle.branches.specs.Handfuls.{with_branch, Bundled}
 use Rattle.branches.proofs.Growing.{grown_none, grown_then, sits_same, entry_held_grown, entry_held_sits}
 use Rattle.branches.proofs.Bundles.{bundled_more, bundled_fits}
-use Rattle.edits.specs.Rowing.{Rowful, entries_in, beside, Keeping, EntriesKept, Added}
+use Rattle.edits.specs.Rowing.{Rowful, entries_in, beside, Keeping, EntriesKept}
 
 -- ---- in hand
 
-module _ (h : Handful) (ys : List ℕ) (R : Rowful h ys) where
-  pub rowful_count : h.singles ≡ length ys
+module _ (h : NodeCell) (ys : List ℕ) (R : Rowful h ys) where
+  pub rowful_count : (ones h.datamap) ≡ length ys
   rowful_count = R.bundled.singles_are
 
   pub digits_long : length (map (λ (y : ℕ). true) ys) ≡ length ys
   digits_long = length-map ys (λ y. true)
 
   -- what taking one more up asks for
-  pub rowful_fits : (h.kids < 16) × ((h.datamap < 2 ^ h.singles) × (h.nodemap < 2 ^ h.singles))
+  pub rowful_fits : ((ones h.nodemap) < 16) × ((h.datamap < 2 ^ (ones h.datamap)) × (h.nodemap < 2 ^ (ones h.datamap)))
   rowful_fits =
       let f = bundled_fits h (map (λ y. true) ys) (map (λ y. false) ys) ys [] R.bundled in
-      let e : length (map (λ (y : ℕ). true) ys) ≡ h.singles = digits_long ∙ sym rowful_count in
+      let e : length (map (λ (y : ℕ). true) ys) ≡ (ones h.datamap) = digits_long ∙ sym rowful_count in
       (omega (arith, R.bundled.kids_are), (subst (λ (n : ℕ). h.datamap < 2 ^ n) e f.0, subst (λ (n : ℕ). h.nodemap < 2 ^ n) e f.1))
 
   pub rowful_in : entries_in h ≡ ys
@@ -38,11 +37,11 @@ module _ (h : Handful) (ys : List ℕ) (R : Rowful h ys) where
   pub rowful_itself : Rowful h (entries_in h)
   rowful_itself = subst (Rowful h) (sym rowful_in) R
 
-  pub rowful_more : (e : EntryId) → h.singles < 16 → (next : Handful) → next ≡ with_branch h h.singles (Entry e) → Rowful next (ys ++ (e.0 ∷ []))
+  pub rowful_more : (e : EntryId) → (ones h.datamap) < 16 → (next : NodeCell) → next ≡ with_branch h (ones h.datamap) (Entry e) → Rowful next (ys ++ (e.0 ∷ []))
   rowful_more e l next made =
       let B : Bundled (with_branch h (length (map (λ (y : ℕ). true) ys)) (Entry e)) (map (λ y. true) ys ++ (true ∷ [])) (map (λ y. false) ys ++ (false ∷ [])) (ys ++ (e.0 ∷ [])) [] =
       bundled_more h (map (λ y. true) ys) (map (λ y. false) ys) ys [] R.bundled (Entry e) l rowful_fits.0 in
-      subst (λ (a : Handful). Rowful a (ys ++ (e.0 ∷ []))) (sym made) (record {
+      subst (λ (a : NodeCell). Rowful a (ys ++ (e.0 ∷ []))) (sym made) (record {
         bundled =
             subst (λ (n : ℕ). Bundled (with_branch h n (Entry e)) (map (λ y. true) (ys ++ (e.0 ∷ []))) (map (λ y. false) (ys ++ (e.0 ∷ []))) (ys ++ (e.0 ∷ [])) []) (digits_long ∙ sym rowful_count)
             (subst (λ (a : List Bool). Bundled (with_branch h (length (map (λ (y : ℕ). true) ys)) (Entry e)) a (map (λ y. false) (ys ++ (e.0 ∷ []))) (ys ++ (e.0 ∷ [])) []) (sym (map_push (λ y. true) ys e.0))
@@ -75,11 +74,11 @@ module _ {X Y : Type 0} (K : KeyKind) (kb : X → List ℕ) (vb : Y → List ℕ
 
 -- so many are held and in hand
 abbrev pub KeptTo :
-    {X Y : Type 0} → KeyKind → (X → List ℕ) → (Y → List ℕ) → List (EntryCell X Y) → ℕ → ℕ → List ℕ → Handful → ℕ → List (EntryCell X Y) → ℕ → ℕ → Handful → Type 0
+    {X Y : Type 0} → KeyKind → (X → List ℕ) → (Y → List ℕ) → List (EntryCell X Y) → ℕ → ℕ → List ℕ → NodeCell → ℕ → List (EntryCell X Y) → ℕ → ℕ → NodeCell → Type 0
 KeptTo K kb vb es f s xs hand j fs g t all = EntriesKept K kb vb es f s (take j xs) fs g t × Rowful all (entries_in hand ++ take j xs)
 
-module _ {X Y : Type 0} (K : KeyKind) (kb : X → List ℕ) (vb : Y → List ℕ) (es : List (EntryCell X Y)) (f s : ℕ) (xs : List ℕ) (hand : Handful) (P : Keeping K kb vb es f s xs hand) where
-  module _ (j : ℕ) (fs : List (EntryCell X Y)) (g t : ℕ) (all : Handful) (I : KeptTo K kb vb es f s xs hand j fs g t all) where
+module _ {X Y : Type 0} (K : KeyKind) (kb : X → List ℕ) (vb : Y → List ℕ) (es : List (EntryCell X Y)) (f s : ℕ) (xs : List ℕ) (hand : NodeCell) (P : Keeping K kb vb es f s xs hand) where
+  module _ (j : ℕ) (fs : List (EntryCell X Y)) (g t : ℕ) (all : NodeCell) (I : KeptTo K kb vb es f s xs hand j fs g t all) where
     module _ (inside : j < length xs) where
       pub keep_held : 0 < (entry_cell fs (get_or xs j 0)).holders
       keep_held = (I.0.grown P.tables P.notes 0).entry_held (get_or xs j 0) (P.held j 0 inside)
@@ -95,7 +94,7 @@ module _ {X Y : Type 0} (K : KeyKind) (kb : X → List ℕ) (vb : Y → List ℕ
             (take j xs ++ P.in_hand, (H.entries, (omega (arith, length-append (take j xs) P.in_hand, so_far, P.few_in_hand), (H.nodes.short, λ i. (H.nodes.narrow i).0)))),
           )
 
-      pub keep_step : (gs : List (EntryCell X Y)) (h u e : ℕ) (next : Handful) → e ≡ get_or xs j 0 → EntryHeld e fs g t gs h u
+      pub keep_step : (gs : List (EntryCell X Y)) (h u e : ℕ) (next : NodeCell) → e ≡ get_or xs j 0 → EntryHeld e fs g t gs h u
           → Rowful next (entries_in all ++ (e ∷ [])) → KeptTo K kb vb es f s xs hand (j + 1) gs h u next
       keep_step gs h u e next z done up =
           let more : take j xs ++ (e ∷ []) ≡ take (j + 1) xs = sym (take_more xs j 0 inside ∙ ap (λ (x : ℕ). take j xs ++ (x ∷ [])) (sym z)) in (

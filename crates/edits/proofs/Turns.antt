@@ -1,5 +1,6 @@
 -- One digit after another of an edit of one key. Assumes nothing.
 use Rattle.std.proofs.Common.{◌≡◌, ℕ, suc, ◌+◌, ◌-◌, ◌*◌, ◌^◌, ◌<◌, ◌≤◌, Bool, true, false, eqb, List, [], ◌∷◌, ◌++◌, map, length, Some, None, Option, sym, ap, ◌∙◌, subst, ap₂, arith, length-append}
+use lib.Count.{ones}
 use Rattle.std.specs.List.{range_with_len}
 use Rattle.std.proofs.lemmas.List.FromFn.{length-map-range_with_len, map-range_with_len_more}
 use Rattle.std.proofs.lemmas.List.{length_push}
@@ -18,7 +19,7 @@ use Rattle.plans.proofs.Crowds.{crowd_at}
 use Rattle.plans.proofs.Costs.{portion_nodes, portion_entries}
 use Rattle.branches.specs.declared.branch.Branch.{Branch}
 use Rattle.branches.specs.declared.branch.Branch.TheVariants.{Nothing, Entry, Child}
-use Rattle.branches.specs.declared.handful.Handful.{Handful}
+use Rattle.tables.specs.declared.cells.NodeCell.{NodeCell}
 use Rattle.branches.specs.States.{Tables, Notes}
 use Rattle.branches.specs.Branches.{Is, Built, GoesOn, SomePart, Stays, Kept, node_of, entry_of}
 use Rattle.branches.specs.Hands.{Gathered}
@@ -112,11 +113,11 @@ module _ {X Y : Type 0} (K : KeyKind) (V : ValueKind) (kb : X → List ℕ) (vb 
     entry_spent = omega arith;
   }
 
-  module _ (g : ℕ) (hand : Handful) (U : Tables X Y) (P : Progress K V kb vb T b k x level q g hand U) (small : g < 16) where
+  module _ (g : ℕ) (hand : NodeCell) (U : Tables X Y) (P : Progress K V kb vb T b k x level q g hand U) (small : g < 16) where
     as_long : (f : ℕ → Bool) → length (map f (range_with_len 0 g)) ≡ g
     as_long f = length-map-range_with_len f 0 g
 
-    pub slots_left : (hand.singles < 16) × (hand.kids < 16)
+    pub slots_left : ((ones hand.datamap) < 16) × ((ones hand.nodemap) < 16)
     slots_left =
         let w = bundled_few hand _ _ P.xs P.ks P.bundled in
         let e = as_long (λ y. one (at_digit K (length p) m y)) in
@@ -244,8 +245,8 @@ module _ {X Y : Type 0} (K : KeyKind) (V : ValueKind) (kb : X → List ℕ) (vb 
 -- ---- whatever the edit is of
 
 module _ {X Y : Type 0} (K : KeyKind) (V : ValueKind) (kb : X → List ℕ) (vb : Y → List ℕ) (T : Tables X Y) (b : Branch) (k : List ℕ) (x : Option (List ℕ)) (level : ℕ) where
-  pub underway_none : (hand : Handful) → hand ≡ nothing_in_hand → Underway K V kb vb T b k x level 0 hand T
-  underway_none hand e = record { so_far = λ q tall. subst (λ (y : Handful). Progress K V kb vb T b k x level q 0 y T) (sym e) (progress_none K V kb vb T b k x level q tall) }
+  pub underway_none : (hand : NodeCell) → hand ≡ nothing_in_hand → Underway K V kb vb T b k x level 0 hand T
+  underway_none hand e = record { so_far = λ q tall. subst (λ (y : NodeCell). Progress K V kb vb T b k x level q 0 y T) (sym e) (progress_none K V kb vb T b k x level q tall) }
 
   -- the digit of the key at the prefix
   pub digit_at : (q : Ready K V kb vb T b k x level) (hash digit' g : ℕ) → hash ≡ K.hash k → digit' ≡ digit hash (8 - level) → g ≡ digit' → digit (K.hash k) (length q.prefix) ≡ g
@@ -255,13 +256,13 @@ module _ {X Y : Type 0} (K : KeyKind) (V : ValueKind) (kb : X → List ℕ) (vb 
   pub digit_away : (q : Ready K V kb vb T b k x level) (hash digit' g : ℕ) → hash ≡ K.hash k → digit' ≡ digit hash (8 - level) → (g ≡ digit' → ⊥) → digit (K.hash k) (length q.prefix) ≡ g → ⊥
   digit_away q hash digit' g e f n w = n (sym w ∙ ap₂ digit (sym e) (let z : length q.prefix ≡ 8 - level = omega (arith, q.deep) in z) ∙ sym f)
 
-  module _ (g : ℕ) (hand : Handful) (U : Tables X Y) (I : Underway K V kb vb T b k x level g hand U) (small : g < 16) (c : Branch) (on : GoesOn K kb vb U b level g c) (next : Handful) (hash digit' : ℕ) (is_hash : hash ≡ K.hash k) (is_digit : digit' ≡ digit hash (8 - level)) (W : Tables X Y) where
+  module _ (g : ℕ) (hand : NodeCell) (U : Tables X Y) (I : Underway K V kb vb T b k x level g hand U) (small : g < 16) (c : Branch) (on : GoesOn K kb vb U b level g c) (next : NodeCell) (hash digit' : ℕ) (is_hash : hash ≡ K.hash k) (is_digit : digit' ≡ digit hash (8 - level)) (W : Tables X Y) where
     pub underway_set : g ≡ digit' → (r s : Branch) → s ≡ r → (Z : Tables X Y) → Z ≡ W → Done K V kb vb U c k x (level - 1) r W → next ≡ with_branch hand g s → Underway K V kb vb T b k x level (g + 1) next Z
     underway_set l r s same Z z d e =
         subst (Underway K V kb vb T b k x level (g + 1) next) (sym z) (record {
           so_far = λ q tall.
               let P = I.so_far q tall in
-              subst (λ (y : Handful). Progress K V kb vb T b k x level q (g + 1) y W) (sym (e ∙ ap (with_branch hand g) same))
+              subst (λ (y : NodeCell). Progress K V kb vb T b k x level q (g + 1) y W) (sym (e ∙ ap (with_branch hand g) same))
               (progress_more K V kb vb T b k x level q tall g hand U P small r W (done_built K V kb vb T b k x level q tall g hand U P small c on (digit_at q hash digit' g is_hash is_digit l) r W d));
         })
 
@@ -270,6 +271,6 @@ module _ {X Y : Type 0} (K : KeyKind) (V : ValueKind) (kb : X → List ℕ) (vb 
         subst (Underway K V kb vb T b k x level (g + 1) next) (sym z) (record {
           so_far = λ q tall.
               let P = I.so_far q tall in
-              subst (λ (y : Handful). Progress K V kb vb T b k x level q (g + 1) y W) (sym (e ∙ ap (with_branch hand g) same))
+              subst (λ (y : NodeCell). Progress K V kb vb T b k x level q (g + 1) y W) (sym (e ∙ ap (with_branch hand g) same))
               (progress_more K V kb vb T b k x level q tall g hand U P small c W (kept_built K V kb vb T b k x level q tall g hand U P small c on (digit_away q hash digit' g is_hash is_digit l) W d));
         })

@@ -1,5 +1,6 @@
 -- All sixteen digits of an edit of one key, made into a branch. Assumes nothing.
 use Rattle.std.proofs.Common.{◌≡◌, ℕ, suc, ◌+◌, ◌-◌, ◌<◌, ◌≤◌, Bool, true, false, cond, ◌||◌, ltb, List, [], ◌∷◌, ◌++◌, map, length, get_or, take, is_some, Some, None, Option, sym, refl, ap, ◌∙◌, subst, inl, inr, arith}
+use lib.Count.{ones}
 use lib.Lanes.{mask_l}
 use Rattle.std.specs.List.{range_with_len}
 use Rattle.std.proofs.lemmas.List.FromFn.{length-map-range_with_len}
@@ -20,7 +21,7 @@ use Rattle.plans.proofs.Costs.{portion_nodes}
 use Rattle.plans.proofs.Sharing.{portion_bushy}
 use Rattle.branches.specs.declared.branch.Branch.{Branch}
 use Rattle.branches.specs.declared.branch.Branch.TheVariants.{Nothing, Entry, Child}
-use Rattle.branches.specs.declared.handful.Handful.{Handful}
+use Rattle.tables.specs.declared.cells.NodeCell.{NodeCell}
 use Rattle.branches.specs.States.{Tables}
 use Rattle.branches.specs.Branches.{Built}
 use Rattle.branches.specs.Hands.{Gathered}
@@ -67,7 +68,7 @@ room_one : (u total_16 share t : ℕ) → u + total_16 ≡ t → share ≡ total
 room_one u total_16 share t a b c = omega arith
 
 module _ {X Y : Type 0} (K : KeyKind) (V : ValueKind) (kb : X → List ℕ) (vb : Y → List ℕ) (T : Tables X Y) (b : Branch) (k : List ℕ) (x : Option (List ℕ)) (level : ℕ)
-    (q : Ready K V kb vb T b k x level) (tall : 0 < level) (hand : Handful) (U : Tables X Y) (P : Progress K V kb vb T b k x level q 16 hand U) where
+    (q : Ready K V kb vb T b k x level) (tall : 0 < level) (hand : NodeCell) (U : Tables X Y) (P : Progress K V kb vb T b k x level q 16 hand U) where
   abbrev n : ℕ
   n = q.call
 
@@ -110,7 +111,7 @@ module _ {X Y : Type 0} (K : KeyKind) (V : ValueKind) (kb : X → List ℕ) (vb 
   sizes = gathered_sizes K kb vb n h p (a ∷ []) m T q.notes q.roots q.in_hand deep P.xs P.ks U P.gathered
 
   is_bushy : makes_node hand level ≡ true → bushy level m ≡ true
-  is_bushy e = bushy_hand hand.kids hand.singles (length m) level (λ l. sizes.1.0 (omega (arith, P.bundled.kids_are, l))) (omega (arith, sizes.1.1, P.bundled.singles_are)) e
+  is_bushy e = bushy_hand (ones hand.nodemap) (ones hand.datamap) (length m) level (λ l. sizes.1.0 (omega (arith, P.bundled.kids_are, l))) (omega (arith, sizes.1.1, P.bundled.singles_are)) e
 
   room : makes_node hand level ≡ true → 0 < U.spare
   room e =
@@ -157,7 +158,7 @@ module _ {X Y : Type 0} (K : KeyKind) (V : ValueKind) (kb : X → List ℕ) (vb 
   assembled (Entry e) W stay A =
       let one_x : P.xs ≡ e.0 ∷ [] =
       one_length P.xs (omega (arith, P.bundled.singles_are, A.1.1.0))
-      ∙ ap (λ (y : ℕ). y ∷ []) (ap (λ (l : List ℕ). get_or l 0 0) (sym P.bundled.entries_are) ∙ take_first hand.singles hand.entries (omega (arith, A.1.1.0)) ∙ sym A.1.1.1.0) in
+      ∙ ap (λ (y : ℕ). y ∷ []) (ap (λ (l : List ℕ). get_or l 0 0) (sym P.bundled.entries_are) ∙ take_first (ones hand.datamap) hand.entries (omega (arith, A.1.1.0)) ∙ sym A.1.1.1.0) in
       let no_ks : P.ks ≡ [] = no_length P.ks (omega (arith, P.bundled.kids_are, A.1.0)) in
       let G = subst (λ (l : List ℕ). Gathered K kb vb n h p (a ∷ []) m T q.notes q.roots q.in_hand 16 (e.0 ∷ []) l U) no_ks
       (subst (λ (l : List ℕ). Gathered K kb vb n h p (a ∷ []) m T q.notes q.roots q.in_hand 16 l P.ks U) one_x P.gathered) in
@@ -173,7 +174,7 @@ module _ {X Y : Type 0} (K : KeyKind) (V : ValueKind) (kb : X → List ℕ) (vb 
 -- ---- whatever the edit is of
 
 module _ {X Y : Type 0} (K : KeyKind) (V : ValueKind) (kb : X → List ℕ) (vb : Y → List ℕ) (T : Tables X Y) (b : Branch) (k : List ℕ) (x : Option (List ℕ)) (level : ℕ)
-    (tall : 0 < level) (g : ℕ) (hand : Handful) (U : Tables X Y) (I : Underway K V kb vb T b k x level g hand U) (all : g ≡ 16) where
+    (tall : 0 < level) (g : ℕ) (hand : NodeCell) (U : Tables X Y) (I : Underway K V kb vb T b k x level g hand U) (all : g ≡ 16) where
   at_end : (q : Ready K V kb vb T b k x level) → Progress K V kb vb T b k x level q 16 hand U
   at_end q = subst (λ (y : ℕ). Progress K V kb vb T b k x level q y hand U) all (I.so_far q tall)
 

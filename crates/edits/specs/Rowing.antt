@@ -1,5 +1,5 @@
 -- Rows of entries at the deepest level: read, searched and taken up. Assumes nothing.
-use Rattle.std.specs.Prelude.{◌≡◌, ℕ, ◌+◌, ◌<◌, ◌≤◌, Bool, true, false, cond, List, [], ◌∷◌, ◌++◌, map, length, take, drop, is_some, Some, None, Option, Result, MatchResult, IfSome, nat_lt, slice_index, slice_index_or, All}
+use Rattle.std.specs.Prelude.{count_ones, ◌≡◌, ℕ, ◌+◌, ◌<◌, ◌≤◌, Bool, true, false, cond, List, [], ◌∷◌, ◌++◌, map, length, take, drop, is_some, Some, None, Option, Result, MatchResult, IfSome, nat_lt, slice_index, slice_index_or, All}
 use Rattle.std.specs.List.{AllByRecursion}
 use Rattle.kinds.specs.Kinds.{KeyKind}
 use Rattle.model.specs.Maps.{Setting, Map, Rises}
@@ -10,7 +10,6 @@ use Rattle.tables.specs.Cells.{cell, entry_cell, singles}
 use Rattle.tables.specs.Heaps.{Entries, EntryMade}
 use Rattle.branches.specs.declared.branch.Branch.{Branch}
 use Rattle.branches.specs.declared.branch.Branch.TheVariants.{Nothing, Entry, Child}
-use Rattle.branches.specs.declared.handful.Handful.{Handful}
 use Rattle.branches.specs.States.{Tables, Notes, Sits, Grown}
 use Rattle.branches.specs.Handfuls.{Bundled}
 use Rattle.plans.specs.Plans.{capped}
@@ -65,19 +64,19 @@ pub record Split {X Y : Type 0} (K : KeyKind) (kb : X → List ℕ) (vb : Y → 
 -- ---- entries taken up
 
 -- the entries ys are in hand, and no child
-pub record Rowful (h : Handful) (ys : List ℕ) : Type 0 where
+pub record Rowful (h : NodeCell) (ys : List ℕ) : Type 0 where
   pub bundled : Bundled h (map (λ y. true) ys) (map (λ y. false) ys) ys []
   pub few : length ys ≤ 16
 
-abbrev pub entries_in : Handful → List ℕ
-entries_in h = take h.singles h.entries
+abbrev pub entries_in : NodeCell → List ℕ
+entries_in h = take (count_ones h.datamap) h.entries
 
 -- tables with the entries of others
 abbrev pub beside : {X Y : Type 0} → Tables X Y → List (EntryCell X Y) → ℕ → ℕ → Tables X Y
 beside T es f s = record { nodes = T.nodes; free = T.free; spare = T.spare; entries = es; entry_free = f; entry_spare = s }
 
 -- the entries xs can be held once more, and there is room for them in hand
-pub record Keeping {X Y : Type 0} (K : KeyKind) (kb : X → List ℕ) (vb : Y → List ℕ) (es : List (EntryCell X Y)) (f s : ℕ) (xs : List ℕ) (hand : Handful) : Type 0 where
+pub record Keeping {X Y : Type 0} (K : KeyKind) (kb : X → List ℕ) (vb : Y → List ℕ) (es : List (EntryCell X Y)) (f s : ℕ) (xs : List ℕ) (hand : NodeCell) : Type 0 where
   pub tables : Tables X Y
   pub notes : Notes
   pub roots : List ℕ
@@ -86,7 +85,7 @@ pub record Keeping {X Y : Type 0} (K : KeyKind) (kb : X → List ℕ) (vb : Y �
   pub held : All (λ e. 0 < (entry_cell es e).holders) xs
   pub few_in_hand : length in_hand + length xs ≤ 65535
   pub rowful : Rowful hand (entries_in hand)
-  pub room : hand.singles + length xs ≤ 16
+  pub room : (count_ones hand.datamap) + length xs ≤ 16
 
 -- the entries xs have one holder more each, from outside
 pub record EntriesKept {X Y : Type 0} (K : KeyKind) (kb : X → List ℕ) (vb : Y → List ℕ) (es : List (EntryCell X Y)) (f s : ℕ) (xs : List ℕ) (fs : List (EntryCell X Y)) (g t : ℕ) : Type 0 where
@@ -95,14 +94,14 @@ pub record EntriesKept {X Y : Type 0} (K : KeyKind) (kb : X → List ℕ) (vb : 
   pub grown : (T : Tables X Y) (N : Notes) (n : ℕ) → Grown n (λ q. ⊥) (λ k. ⊥) (beside T es f s) N (beside T fs g t) N
 
 -- where there is a value, there is a free cell for its entry and room for it in hand
-pub record Adding {X Y : Type 0} (es : List (EntryCell X Y)) (f s : ℕ) (value : Option Y) (hand : Handful) : Type 0 where
+pub record Adding {X Y : Type 0} (es : List (EntryCell X Y)) (f s : ℕ) (value : Option Y) (hand : NodeCell) : Type 0 where
   pub heap : (cs : List NodeCell) × ((R : List ℕ) × Entries cs es f s R)
   pub spare : is_some value ≡ true → 0 < s
   pub rowful : Rowful hand (entries_in hand)
-  pub room : is_some value ≡ true → hand.singles < 16
+  pub room : is_some value ≡ true → (count_ones hand.datamap) < 16
 
 -- where there is a value, a new entry of it is in hand, and else all is as it was
-abbrev pub Added : {X Y : Type 0} → X → Option Y → Handful → List (EntryCell X Y) → ℕ → ℕ → Handful → List (EntryCell X Y) → ℕ → ℕ → Type 0
+abbrev pub Added : {X Y : Type 0} → X → Option Y → NodeCell → List (EntryCell X Y) → ℕ → ℕ → NodeCell → List (EntryCell X Y) → ℕ → ℕ → Type 0
 Added key (Some v) hand es f s next fs g t =
     (e : ℕ) × (EntryMade e (record { held = Some (key, v); holders = 1; next = 0 }) es f s fs g t × Rowful next (entries_in hand ++ (e ∷ [])))
 Added key None hand es f s next fs g t = (next ≡ hand) × ((fs ≡ es) × ((g ≡ f) × (t ≡ s)))

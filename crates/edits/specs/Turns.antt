@@ -7,7 +7,7 @@ use Rattle.model.specs.Tries.{at_digit, one, many}
 use Rattle.model.specs.Sharing.{Part, Shared, below}
 use Rattle.plans.specs.Plans.{edited, portion, total}
 use Rattle.branches.specs.declared.branch.Branch.{Branch}
-use Rattle.branches.specs.declared.handful.Handful.{Handful}
+use Rattle.tables.specs.declared.cells.NodeCell.{NodeCell}
 use Rattle.branches.specs.States.{Tables}
 use Rattle.branches.specs.Hands.{Gathered}
 use Rattle.branches.specs.Handfuls.{Bundled}
@@ -23,7 +23,7 @@ module _ {X Y : Type 0} (K : KeyKind) (V : ValueKind) (kb : X → List ℕ) (vb 
   result q = edited K q.source.settings k x
 
   -- all of the result at the digits before g is in hand
-  pub record Progress (q : Ready K V kb vb T b k x level) (g : ℕ) (hand : Handful) (U : Tables X Y) : Type 0 where
+  pub record Progress (q : Ready K V kb vb T b k x level) (g : ℕ) (hand : NodeCell) (U : Tables X Y) : Type 0 where
     pub xs : List ℕ
     pub ks : List ℕ
     pub gathered : Gathered K kb vb q.call (level - 1) q.prefix (q.source ∷ []) (result q) T q.notes q.roots q.in_hand g xs ks U
@@ -31,5 +31,5 @@ module _ {X Y : Type 0} (K : KeyKind) (V : ValueKind) (kb : X → List ℕ) (vb 
     pub spent : U.spare + total (λ y. (portion_at K q.call (level - 1) q.prefix q.source (result q) y).new_nodes) (range_with_len 0 g) ≡ T.spare
     pub entry_spent : U.entry_spare + total (λ y. (portion_at K q.call (level - 1) q.prefix q.source (result q) y).new_entries) (range_with_len 0 g) ≡ T.entry_spare
 
-  pub record Underway (g : ℕ) (hand : Handful) (U : Tables X Y) : Type 0 where
+  pub record Underway (g : ℕ) (hand : NodeCell) (U : Tables X Y) : Type 0 where
     pub so_far : (q : Ready K V kb vb T b k x level) → 0 < level → Progress q g hand U

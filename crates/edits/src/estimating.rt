@@ -14,8 +14,8 @@ use tables::{Digit, Tables};
 
 // Whether a branch with no setting of another key has the value, or nothing, already.
 fn has_already<K: Key, V: Value>(tables: &Tables<K, V>, at: Branch, value: Option<V>) -> bool
-    requires { (level : ℕ) × SomePart K.Key.kind K.Key.bytes V.Value.bytes (tables_of tables.now) at level }
-    ensures { SameAlone K.Key.kind K.Key.bytes V.Value.bytes (tables_of tables.now) at (value_bytes V.Value.bytes value) result }
+    requires { (level : ℕ) × SomePart K.kind K.bytes V.bytes (tables_of tables.now) at level }
+    ensures { SameAlone K.kind K.bytes V.bytes (tables_of tables.now) at (value_bytes V.bytes value) result }
 {
     match at {
         Branch::Nothing => same_value(&tables.entries, None, value),
@@ -26,8 +26,8 @@ fn has_already<K: Key, V: Value>(tables: &Tables<K, V>, at: Branch, value: Optio
 
 // Where a branch has no setting of another key: what is set is all that is left.
 fn estimate_alone<K: Key, V: Value>(tables: &Tables<K, V>, at: Branch, value: Option<V>) -> Estimate
-    requires { (level : ℕ) × SomePart K.Key.kind K.Key.bytes V.Value.bytes (tables_of tables.now) at level }
-    ensures { EstimatedAlone K.Key.kind K.Key.bytes V.Value.bytes (tables_of tables.now) at (value_bytes V.Value.bytes value) result }
+    requires { (level : ℕ) × SomePart K.kind K.bytes V.bytes (tables_of tables.now) at level }
+    ensures { EstimatedAlone K.kind K.bytes V.bytes (tables_of tables.now) at (value_bytes V.bytes value) result }
 {
     let same = has_already(tables, at, value);
     let some = value.is_some();
@@ -42,8 +42,8 @@ pub fn estimate_set<K: Key, V: Value>(
     value: Option<V>,
     level: u8,
 ) -> Estimate
-    requires { Seen K.Key.kind V.Value.kind K.Key.bytes V.Value.bytes (tables_of tables.now) at (K.Key.bytes key.now) (value_bytes V.Value.bytes value) level }
-    ensures { Estimated K.Key.kind V.Value.kind K.Key.bytes V.Value.bytes (tables_of tables.now) at (K.Key.bytes key.now) (value_bytes V.Value.bytes value) level result }
+    requires { Seen K.kind V.kind K.bytes V.bytes (tables_of tables.now) at (K.bytes key.now) (value_bytes V.bytes value) level }
+    ensures { Estimated K.kind V.kind K.bytes V.bytes (tables_of tables.now) at (K.bytes key.now) (value_bytes V.bytes value) level result }
 {
     if level < 8 && is_alone(tables, at, key) {
         return estimate_alone(tables, at, value);

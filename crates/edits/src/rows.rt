@@ -1,5 +1,5 @@
 // A part at the deepest level, one key of it set: a row of at most sixteen entries by rising key.
-ghost use Rattle.std.specs.Prelude.{◌≡◌, ◌<◌, [], ◌∷◌, ◌++◌, length, All, IfSome};
+ghost use Rattle.std.specs.Prelude.{◌≡◌, ◌<◌, count_ones, [], ◌∷◌, ◌++◌, length, All, IfSome};
 ghost use Rattle.std.specs.List.Sorted.{IsSearchInRange};
 ghost use Rattle.model.specs.Maps.{same_found};
 ghost use Rattle.tables.specs.Cells.{singles};
@@ -9,7 +9,7 @@ ghost use Rattle.edits.specs.Sets.{value_bytes, Seen, Estimated, Ready, Done};
 ghost use Rattle.edits.specs.Rowing.{NodeIn, entries_of, Found, Split, entries_in, Rowful, Keeping, EntriesKept, Adding, Added, value_held};
 
 use super::estimate::Estimate;
-use branches::{Branch, Handful, assemble, empty_handed, setting_of, take_up};
+use branches::{Branch, assemble, empty_handed, setting_of, take_up};
 use kinds::{Key, Value};
 use std::cmp::Ordering;
 use tables::{Digit, EntryId, EntryTable, NodeCell, NodeTable, Tables, hold_entry, make_entry};
@@ -36,9 +36,9 @@ fn find_in<K: Key, V: Value>(
     row: &[u16],
     key: &K,
 ) -> Result<usize, usize>
-    requires { All (SomeEntry K.Key.kind K.Key.bytes V.Value.bytes entries.now.cells.now) row.now }
+    requires { All (SomeEntry K.kind K.bytes V.bytes entries.now.cells.now) row.now }
     ensures inside { IsSearchInRange result (length row.now) }
-    ensures place { Found K.Key.kind K.Key.bytes V.Value.bytes entries.now.cells.now row.now (K.Key.bytes key.now) result }
+    ensures place { Found K.kind K.bytes V.bytes entries.now.cells.now row.now (K.bytes key.now) result }
 {
     for (j, entry) in row.iter().enumerate() {
         let (other, _) = setting_of(entries, EntryId(*entry));
@@ -57,8 +57,8 @@ fn split_row<'a, K: Key, V: Value>(
     row: &'a [u16],
     key: &K,
 ) -> (&'a [u16], Option<EntryId>, &'a [u16])
-    requires { All (SomeEntry K.Key.kind K.Key.bytes V.Value.bytes entries.now.cells.now) row.now }
-    ensures { Split K.Key.kind K.Key.bytes V.Value.bytes entries.now.cells.now row.now (K.Key.bytes key.now) result.0.now result.1 result.2.now }
+    requires { All (SomeEntry K.kind K.bytes V.bytes entries.now.cells.now) row.now }
+    ensures { Split K.kind K.bytes V.bytes entries.now.cells.now row.now (K.bytes key.now) result.0.now result.1 result.2.now }
 {
     match find_in(entries, row, key) {
         Ok(at) => (&row[..at], Some(EntryId(row[at])), &row[at + 1..]),
@@ -67,21 +67,25 @@ fn split_row<'a, K: Key, V: Value>(
 }
 
 // Takes an entry up, after those that are in hand.
-fn take_next(hand: Handful, id: EntryId) -> Handful
+fn take_next(hand: NodeCell, id: EntryId) -> NodeCell
     requires row { Rowful hand (entries_in hand) }
-    requires room { hand.singles < 16 }
+    requires room { count_ones hand.datamap < 16 }
     ensures { Rowful result (entries_in hand ++ (id.0 ∷ [])) }
 {
     let next = Digit {
-        number: hand.singles as u8,
+        number: hand.datamap.count_ones() as u8,
     };
     take_up(hand, next, Branch::Entry(id))
 }
 
 // Holds the entries of a row once more each, and takes them up.
-fn keep_row<K: Key, V: Value>(entries: &mut EntryTable<K, V>, row: &[u16], hand: Handful) -> Handful
-    requires { Keeping K.Key.kind K.Key.bytes V.Value.bytes entries.old.cells.now entries.old.free entries.old.spare row.now hand }
-    ensures kept { EntriesKept K.Key.kind K.Key.bytes V.Value.bytes entries.old.cells.now entries.old.free entries.old.spare row.now entries.new.cells.now entries.new.free entries.new.spare }
+fn keep_row<K: Key, V: Value>(
+    entries: &mut EntryTable<K, V>,
+    row: &[u16],
+    hand: NodeCell,
+) -> NodeCell
+    requires { Keeping K.kind K.bytes V.bytes entries.old.cells.now entries.old.free entries.old.spare row.now hand }
+    ensures kept { EntriesKept K.kind K.bytes V.bytes entries.old.cells.now entries.old.free entries.old.spare row.now entries.new.cells.now entries.new.free entries.new.spare }
     ensures hand { Rowful result (entries_in hand ++ row.now) }
 {
     let mut all = hand;
@@ -98,8 +102,8 @@ fn take_new<K: Key, V: Value>(
     entries: &mut EntryTable<K, V>,
     key: &K,
     value: Option<V>,
-    hand: Handful,
-) -> Handful
+    hand: NodeCell,
+) -> NodeCell
     requires { Adding entries.old.cells.now entries.old.free entries.old.spare value hand }
     ensures { Added key.now value hand entries.old.cells.now entries.old.free entries.old.spare result entries.new.cells.now entries.new.free entries.new.spare }
 {
@@ -116,8 +120,8 @@ pub fn set_row<K: Key, V: Value>(
     key: &K,
     value: Option<V>,
 ) -> Branch
-    requires { Ready K.Key.kind V.Value.kind K.Key.bytes V.Value.bytes (tables_of tables.old) at (K.Key.bytes key.now) (value_bytes V.Value.bytes value) 0 }
-    ensures { Done K.Key.kind V.Value.kind K.Key.bytes V.Value.bytes (tables_of tables.old) at (K.Key.bytes key.now) (value_bytes V.Value.bytes value) 0 result (tables_of tables.new) }
+    requires { Ready K.kind V.kind K.bytes V.bytes (tables_of tables.old) at (K.bytes key.now) (value_bytes V.bytes value) 0 }
+    ensures { Done K.kind V.kind K.bytes V.bytes (tables_of tables.old) at (K.bytes key.now) (value_bytes V.bytes value) 0 result (tables_of tables.new) }
 {
     let node = node_of(&tables.nodes, at);
     let (before, _, after) = split_row(&tables.entries, node.singles(), key);
@@ -133,8 +137,8 @@ pub(crate) fn same_value<K: Key, V: Value>(
     found: Option<EntryId>,
     value: Option<V>,
 ) -> bool
-    requires { IfSome found (λ id. SomeEntry K.Key.kind K.Key.bytes V.Value.bytes entries.now.cells.now id.0) }
-    ensures { result ≡ same_found (value_held K.Key.bytes V.Value.bytes entries.now.cells.now found) (value_bytes V.Value.bytes value) }
+    requires { IfSome found (λ id. SomeEntry K.kind K.bytes V.bytes entries.now.cells.now id.0) }
+    ensures { result ≡ same_found (value_held K.bytes V.bytes entries.now.cells.now found) (value_bytes V.bytes value) }
 {
     match (found, value) {
         (Some(id), Some(new)) => {
@@ -153,8 +157,8 @@ pub fn estimate_row<K: Key, V: Value>(
     key: &K,
     value: Option<V>,
 ) -> Estimate
-    requires { Seen K.Key.kind V.Value.kind K.Key.bytes V.Value.bytes (tables_of tables.now) at (K.Key.bytes key.now) (value_bytes V.Value.bytes value) 0 }
-    ensures { Estimated K.Key.kind V.Value.kind K.Key.bytes V.Value.bytes (tables_of tables.now) at (K.Key.bytes key.now) (value_bytes V.Value.bytes value) 0 result }
+    requires { Seen K.kind V.kind K.bytes V.bytes (tables_of tables.now) at (K.bytes key.now) (value_bytes V.bytes value) 0 }
+    ensures { Estimated K.kind V.kind K.bytes V.bytes (tables_of tables.now) at (K.bytes key.now) (value_bytes V.bytes value) 0 result }
 {
     let node = node_of(&tables.nodes, at);
     let (before, found, after) = split_row(&tables.entries, node.singles(), key);

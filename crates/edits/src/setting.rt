@@ -11,8 +11,8 @@ use tables::{Digit, Tables, make_entry};
 
 // Whether a branch has no setting of another key, as an entry.
 pub(crate) fn is_alone<K: Key, V: Value>(tables: &Tables<K, V>, at: Branch, key: &K) -> bool
-    requires { (level : ℕ) × SomePart K.Key.kind K.Key.bytes V.Value.bytes (tables_of tables.now) at level }
-    ensures { FoundAlone K.Key.kind K.Key.bytes V.Value.bytes (tables_of tables.now) at (K.Key.bytes key.now) result }
+    requires { (level : ℕ) × SomePart K.kind K.bytes V.bytes (tables_of tables.now) at level }
+    ensures { FoundAlone K.kind K.bytes V.bytes (tables_of tables.now) at (K.bytes key.now) result }
 {
     match at {
         Branch::Nothing => true,
@@ -32,8 +32,8 @@ pub fn set<K: Key, V: Value>(
     value: Option<V>,
     level: u8,
 ) -> Branch
-    requires { Ready K.Key.kind V.Value.kind K.Key.bytes V.Value.bytes (tables_of tables.old) at (K.Key.bytes key.now) (value_bytes V.Value.bytes value) level }
-    ensures { Done K.Key.kind V.Value.kind K.Key.bytes V.Value.bytes (tables_of tables.old) at (K.Key.bytes key.now) (value_bytes V.Value.bytes value) level result (tables_of tables.new) }
+    requires { Ready K.kind V.kind K.bytes V.bytes (tables_of tables.old) at (K.bytes key.now) (value_bytes V.bytes value) level }
+    ensures { Done K.kind V.kind K.bytes V.bytes (tables_of tables.old) at (K.bytes key.now) (value_bytes V.bytes value) level result (tables_of tables.new) }
 {
     if level < 8 && is_alone(tables, at, key) {
         return match value {

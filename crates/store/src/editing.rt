@@ -11,7 +11,7 @@ use kinds::{Key, Refusal, Value};
 impl<'a, K: Key, V: Value> Store<'a, K, V> {
     // Makes a draft of the empty map at an empty place.
     pub fn open(&mut self, place: u32) -> Result<Draft, Refusal>
-        ensures answered { Answered K.Key.kind V.Value.kind K.Key.bytes V.Value.bytes self.old self.new (Open place) (opened_shown result) }
+        ensures answered { Answered K.kind V.kind K.bytes V.bytes self.old self.new (Open place) (opened_shown result) }
         ensures numbered { Numbered place result }
     {
         self.open_at(place)?;
@@ -20,7 +20,7 @@ impl<'a, K: Key, V: Value> Store<'a, K, V> {
 
     // Makes a draft at an empty place, with the map of a published place.
     pub fn open_from(&mut self, place: u32, from: u32) -> Result<Draft, Refusal>
-        ensures answered { Answered K.Key.kind V.Value.kind K.Key.bytes V.Value.bytes self.old self.new (OpenFrom place from) (opened_shown result) }
+        ensures answered { Answered K.kind V.kind K.bytes V.bytes self.old self.new (OpenFrom place from) (opened_shown result) }
         ensures numbered { Numbered place result }
     {
         self.open_from_at(place, from)?;
@@ -29,21 +29,21 @@ impl<'a, K: Key, V: Value> Store<'a, K, V> {
 
     // Gives a key of a draft a value, new or replacing; answers the nodes and the entries that it took.
     pub fn put(&mut self, draft: &Draft, key: &K, value: &V) -> Result<(usize, usize), Refusal>
-        ensures { Answered K.Key.kind V.Value.kind K.Key.bytes V.Value.bytes self.old self.new (Put draft.now (K.Key.bytes key.now) (V.Value.bytes value.now)) (took_shown result) }
+        ensures { Answered K.kind V.kind K.bytes V.bytes self.old self.new (Put draft.now (K.bytes key.now) (V.bytes value.now)) (took_shown result) }
     {
         self.put_at(draft.number(), key, value)
     }
 
     // Takes a key out of a draft; answers the nodes and the entries that it took.
     pub fn remove(&mut self, draft: &Draft, key: &K) -> Result<(usize, usize), Refusal>
-        ensures { Answered K.Key.kind V.Value.kind K.Key.bytes V.Value.bytes self.old self.new (Remove draft.now (K.Key.bytes key.now)) (took_shown result) }
+        ensures { Answered K.kind V.kind K.bytes V.bytes self.old self.new (Remove draft.now (K.bytes key.now)) (took_shown result) }
     {
         self.remove_at(draft.number(), key)
     }
 
     // Makes a draft a published version at its place.
     pub fn publish(&mut self, draft: Draft) -> Result<(), (Draft, Refusal)>
-        ensures answered { Answered K.Key.kind V.Value.kind K.Key.bytes V.Value.bytes self.old self.new (Publish draft) (taken_shown result) }
+        ensures answered { Answered K.kind V.kind K.bytes V.bytes self.old self.new (Publish draft) (taken_shown result) }
         ensures back { ComesBack draft result }
     {
         let done = self.publish_at(draft.number());
@@ -52,7 +52,7 @@ impl<'a, K: Key, V: Value> Store<'a, K, V> {
 
     // Empties the place of a draft.
     pub fn abandon(&mut self, draft: Draft) -> Result<(), (Draft, Refusal)>
-        ensures answered { Answered K.Key.kind V.Value.kind K.Key.bytes V.Value.bytes self.old self.new (Abandon draft) (taken_shown result) }
+        ensures answered { Answered K.kind V.kind K.bytes V.bytes self.old self.new (Abandon draft) (taken_shown result) }
         ensures back { ComesBack draft result }
     {
         let done = self.abandon_at(draft.number());

@@ -16,7 +16,7 @@ use kinds::{Key, Refusal, Value};
 impl<'a, K: Key, V: Value> Store<'a, K, V> {
     // Makes a draft a published version at its place.
     pub(crate) fn publish_at(&mut self, place: u32) -> Result<(), Refusal>
-        ensures { Answered K.Key.kind V.Value.kind K.Key.bytes V.Value.bytes self.old self.new (Publish place) (done_shown result) }
+        ensures { Answered K.kind V.kind K.bytes V.bytes self.old self.new (Publish place) (done_shown result) }
     {
         let root = self.draft_at(place)?;
         self.places[place as usize] = Spot::Published(root);
@@ -25,7 +25,7 @@ impl<'a, K: Key, V: Value> Store<'a, K, V> {
 
     // Empties the place of a draft.
     pub(crate) fn abandon_at(&mut self, place: u32) -> Result<(), Refusal>
-        ensures { Answered K.Key.kind V.Value.kind K.Key.bytes V.Value.bytes self.old self.new (Abandon place) (done_shown result) }
+        ensures { Answered K.kind V.kind K.bytes V.bytes self.old self.new (Abandon place) (done_shown result) }
     {
         let root = self.draft_at(place)?;
         self.clear(place, root);
@@ -34,7 +34,7 @@ impl<'a, K: Key, V: Value> Store<'a, K, V> {
 
     // Empties a published place.
     pub fn retire(&mut self, place: u32) -> Result<(), Refusal>
-        ensures { Answered K.Key.kind V.Value.kind K.Key.bytes V.Value.bytes self.old self.new (Retire place) (done_shown result) }
+        ensures { Answered K.kind V.kind K.bytes V.bytes self.old self.new (Retire place) (done_shown result) }
     {
         let version = self.published_at(place)?;
         self.clear(place, version);

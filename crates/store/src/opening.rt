@@ -14,7 +14,7 @@ impl<'a, K: Key, V: Value> Store<'a, K, V> {
     // Makes a draft of the empty map at an empty place.
     pub(crate) fn open_at(&mut self, place: u32) -> Result<(), Refusal>
         ensures inside { IfOk result (λ _. place < 64) }
-        ensures answered { Answered K.Key.kind V.Value.kind K.Key.bytes V.Value.bytes self.old self.new (Open place) (done_shown result) }
+        ensures answered { Answered K.kind V.kind K.bytes V.bytes self.old self.new (Open place) (done_shown result) }
     {
         self.empty_at(place)?;
         self.places[place as usize] = Spot::Draft(Branch::Nothing);
@@ -24,7 +24,7 @@ impl<'a, K: Key, V: Value> Store<'a, K, V> {
     // Makes a draft at an empty place, with the map of a published place: it holds that place's root too.
     pub(crate) fn open_from_at(&mut self, place: u32, from: u32) -> Result<(), Refusal>
         ensures inside { IfOk result (λ _. place < 64) }
-        ensures answered { Answered K.Key.kind V.Value.kind K.Key.bytes V.Value.bytes self.old self.new (OpenFrom place from) (done_shown result) }
+        ensures answered { Answered K.kind V.kind K.bytes V.bytes self.old self.new (OpenFrom place from) (done_shown result) }
     {
         self.spot_at(place)?;
         let root = self.published_at(from)?;

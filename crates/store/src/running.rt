@@ -11,7 +11,7 @@ impl<'a, K: Key, V: Value> Store<'a, K, V> {
     // Makes the calls in order and writes their answers, as many as have room; says how many.
     fn make_calls(&mut self, calls: &[Call<K, V>], answers: &mut [Answer<V>]) -> usize
         ensures many { result ≡ min (length calls.now) (length answers.old) }
-        ensures made { MadeCalls K.Key.kind V.Value.kind K.Key.bytes V.Value.bytes self.old self.new calls.now answers.old answers.new result }
+        ensures made { MadeCalls K.kind V.kind K.bytes V.bytes self.old self.new calls.now answers.old answers.new result }
     {
         let count = calls.len().min(answers.len());
         for (i, call) in calls[..count].iter().enumerate() {
@@ -29,7 +29,7 @@ pub fn run<K: Key, V: Value>(
     calls: &[Call<K, V>],
     answers: &mut [Answer<V>],
 ) -> Result<usize, Refusal>
-    ensures { Ran K.Key.kind V.Value.kind K.Key.bytes V.Value.bytes nodes.old nodes.new entries.old entries.new calls.now answers.old answers.new result }
+    ensures { Ran K.kind V.kind K.bytes V.bytes nodes.old nodes.new entries.old entries.new calls.now answers.old answers.new result }
 {
     start(nodes, entries)?;
     let mut store = Store::over(nodes, entries);

@@ -19,21 +19,21 @@ impl<'a, K: Key, V: Value> Store<'a, K, V> {
         key: &K,
         value: &V,
     ) -> Result<(usize, usize), Refusal>
-        ensures { Answered K.Key.kind V.Value.kind K.Key.bytes V.Value.bytes self.old self.new (Put place (K.Key.bytes key.now) (V.Value.bytes value.now)) (took_shown result) }
+        ensures { Answered K.kind V.kind K.bytes V.bytes self.old self.new (Put place (K.bytes key.now) (V.bytes value.now)) (took_shown result) }
     {
         self.set_at(place, key, Some(*value))
     }
 
     // Takes a key out of a draft; answers the nodes and the entries that it took.
     pub(crate) fn remove_at(&mut self, place: u32, key: &K) -> Result<(usize, usize), Refusal>
-        ensures { Answered K.Key.kind V.Value.kind K.Key.bytes V.Value.bytes self.old self.new (Remove place (K.Key.bytes key.now)) (took_shown result) }
+        ensures { Answered K.kind V.kind K.bytes V.bytes self.old self.new (Remove place (K.bytes key.now)) (took_shown result) }
     {
         self.set_at(place, key, None)
     }
 
     // Sets a key of a draft to a value, or to nothing. What that takes is worked out and judged first; the old version is given up once the new one stands.
     fn set_at(&mut self, place: u32, key: &K, value: Option<V>) -> Result<(usize, usize), Refusal>
-        ensures { Answered K.Key.kind V.Value.kind K.Key.bytes V.Value.bytes self.old self.new (set_call place (K.Key.bytes key.now) (value_bytes V.Value.bytes value)) (took_shown result) }
+        ensures { Answered K.kind V.kind K.bytes V.bytes self.old self.new (set_call place (K.bytes key.now) (value_bytes V.bytes value)) (took_shown result) }
     {
         let root = self.draft_at(place)?;
         let plan = estimate_set(&self.tables, root, key, value, 8);

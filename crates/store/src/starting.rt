@@ -53,7 +53,7 @@ pub fn start<'a, K: Key, V: Value>(
     nodes: &'a mut [NodeCell],
     entries: &'a mut [EntryCell<K, V>],
 ) -> Result<Store<'a, K, V>, NotStarted<'a, K, V>>
-    ensures { New K.Key.kind V.Value.kind K.Key.bytes V.Value.bytes nodes.old entries.old result }
+    ensures { New K.kind V.kind K.bytes V.bytes nodes.old entries.old result }
 {
     match tables::start(nodes, entries) {
         Ok(()) => Ok(Store::over(nodes, entries)),

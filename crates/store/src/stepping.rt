@@ -9,7 +9,7 @@ use kinds::{Key, Refusal, Value};
 impl<'a, K: Key, V: Value> Store<'a, K, V> {
     // Makes one call by the number of its place.
     pub(crate) fn step(&mut self, call: &Call<K, V>) -> Answer<V>
-        ensures { Answered K.Key.kind V.Value.kind K.Key.bytes V.Value.bytes self.old self.new (call_shown K.Key.bytes V.Value.bytes call.now) (answer_shown V.Value.bytes result) }
+        ensures { Answered K.kind V.kind K.bytes V.bytes self.old self.new (call_shown K.bytes V.bytes call.now) (answer_shown V.bytes result) }
     {
         match self.attempt(call) {
             Ok(answer) => answer,
@@ -19,7 +19,7 @@ impl<'a, K: Key, V: Value> Store<'a, K, V> {
 
     // Makes one call: what it answers, or why it is refused.
     fn attempt(&mut self, call: &Call<K, V>) -> Result<Answer<V>, Refusal>
-        ensures { Answered K.Key.kind V.Value.kind K.Key.bytes V.Value.bytes self.old self.new (call_shown K.Key.bytes V.Value.bytes call.now) (result_shown (answer_shown V.Value.bytes) result) }
+        ensures { Answered K.kind V.kind K.bytes V.bytes self.old self.new (call_shown K.bytes V.bytes call.now) (result_shown (answer_shown V.bytes) result) }
     {
         match call {
             Call::Open(place) => {

@@ -22,7 +22,7 @@ impl<'a, K: Key, V: Value> Model for Store<'a, K, V> {
 
     ghost view = { λ s. state_of s.tables s.places };
 
-    ghost invariant = { λ s. Started K.Key.kind V.Value.kind K.Key.bytes V.Value.bytes (state_of s.tables s.places) };
+    ghost invariant = { λ s. Started K.kind V.kind K.bytes V.bytes (state_of s.tables s.places) };
 }
 
 impl<'a, K: Key, V: Value> Store<'a, K, V> {

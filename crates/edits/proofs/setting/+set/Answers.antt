@@ -2,7 +2,7 @@ use Rattle.std.proofs.Common.{◌<◌, refl, ap, arith}
 use Rattle.branches.specs.States.{tables_of}
 use Rattle.edits.specs.Sets.{value_bytes}
 use Rattle.edits.proofs.Alone.{entry_room, done_some, done_none}
-use Rattle.edits.proofs.Turns.{same_digit, other_digit, underway_none, some_part, child_ready, stays, slots_left, bits_left, digit_at, underway_set, underway_kept}
+use Rattle.edits.proofs.Turns.{same_digit, other_digit, underway_none, some_part, child_ready, stays, bits_left, digit_at, underway_set, underway_kept}
 use Rattle.edits.proofs.Wholes.{ready_whole, done_whole}
 use Rattle.edits.proofs.setting.+set.Goals as goal
 use Rattle.edits.proofs.setting.+set.Goals.{then-eq, else-eq, in-Some, in-None}
@@ -10,7 +10,7 @@ use Rattle.edits.proofs.setting.+set.Goals.{then-eq, else-eq, in-Some, in-None}
 pub make_entry-requires : goal.make_entry-requires
 make_entry-requires g t c =
     record {
-      some = entry_room _ _ _ _ _ _ _ _ c.if-level-lt8.true _ c.is_alone.ensures c.if-is_alone.true _ _ (ap (value_bytes g.V.Value.bytes) c.in-Some.is) c.requires;
+      some = entry_room _ _ _ _ _ _ _ _ c.if-level-lt8.true _ c.is_alone.ensures c.if-is_alone.true _ _ (ap (value_bytes g.V.Coded.bytes) c.in-Some.is) c.requires;
       heap = (c.args.tables.now.nodes.cells.now, (c.requires.in_hand, c.requires.sits.entries));
     }
 
@@ -18,10 +18,10 @@ pub returns-then-is_alone : goal.returns-then-is_alone
 returns-then-is_alone g t c =
     elim c.match-value.branch [
       | in-Some w ↦
-          done_some _ _ _ _ _ _ _ _ c.if-level-lt8.true _ c.is_alone.ensures c.if-is_alone.true _ _ (ap (value_bytes g.V.Value.bytes) w.in-Some.is)
+          done_some _ _ _ _ _ _ _ _ c.if-level-lt8.true _ c.is_alone.ensures c.if-is_alone.true _ _ (ap (value_bytes g.V.Coded.bytes) w.in-Some.is)
           _ _ refl refl _ _ w.result-is _ _ (ap tables_of w.tables-is) (refl, refl, refl) w.make_entry.ensures
       | in-None w ↦
-          done_none _ _ _ _ _ _ _ _ c.if-level-lt8.true _ c.is_alone.ensures c.if-is_alone.true _ (ap (value_bytes g.V.Value.bytes) w.in-None.is) _ w.result-is _ (ap tables_of w.tables-is)
+          done_none _ _ _ _ _ _ _ _ c.if-level-lt8.true _ c.is_alone.ensures c.if-is_alone.true _ (ap (value_bytes g.V.Coded.bytes) w.in-None.is) _ w.result-is _ (ap tables_of w.tables-is)
     ]
 
 pub loop-number-init : goal.loop-number-init
@@ -57,9 +57,8 @@ keep-requires g t c =
 pub take_up-hand-requires : goal.take_up-hand-requires
 take_up-hand-requires g t c =
     let tall : 0 < c.args.level = omega arith in
-    let w = slots_left _ _ _ _ _ _ _ _ _ c.requires tall _ _ _ (c.loop-number.invariant.so_far c.requires tall) (omega arith) in
     let v = bits_left _ _ _ _ _ _ _ _ _ c.requires tall _ _ _ (c.loop-number.invariant.so_far c.requires tall) (omega arith) in
-    record { singles = w.0; kids = w.1; data_fits = v.0; node_fits = v.1 }
+    record { data_fits = v.0; node_fits = v.1 }
 
 pub loop-number-preserved : goal.loop-number-preserved
 loop-number-preserved g t c =

@@ -8,5 +8,5 @@ decreases-set g l = l.level
 
 abbrev pub invariant-loop-number : goal.invariant-loop-number
 invariant-loop-number g l =
-    Underway g.K.Key.kind g.V.Value.kind g.K.Key.bytes g.V.Value.bytes (tables_of l.initial.tables) l.at (g.K.Key.bytes l.key) (value_bytes g.V.Value.bytes l.value) l.level
+    Underway g.K.Key.kind g.V.Value.kind g.K.Coded.bytes g.V.Coded.bytes (tables_of l.initial.tables) l.at (g.K.Coded.bytes l.key) (value_bytes g.V.Coded.bytes l.value) l.level
     l.number l.hand (tables_of l.tables)

@@ -7,7 +7,7 @@ use Rattle.store.proofs.store.Store.look_up.Goals as goal
 
 pub returns-in_err-live_at : goal.returns-in_err-live_at
 returns-in_err-live_at g c =
-    unlive g.K.Key.kind g.V.Value.kind _ _ _ (LookUp c.args.place (g.K.Key.bytes c.args.key.now)) (g.met.K.Key.readable c.args.key.now) c.args.place _ _ _
+    unlive g.K.Key.kind g.V.Value.kind _ _ _ (LookUp c.args.place (g.K.Coded.bytes c.args.key.now)) (g.met.K.Key.readable c.args.key.now) c.args.place _ _ _
     c.from_residual.ensures.1 _ (λ a _. refl) c.in_err-live_at.ensures
 
 pub look_up-requires : goal.look_up-requires

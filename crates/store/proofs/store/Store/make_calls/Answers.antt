@@ -14,4 +14,4 @@ loop-i-preserved g c =
 pub returns-clause-made : goal.returns-clause-made
 returns-clause-made g c =
     let whole : c.loop-i.i ≡ c.min-count.result = grind (arith, length-take) in
-    subst (λ (n : ℕ). MadeCalls g.K.Key.kind g.V.Value.kind g.K.Key.bytes g.V.Value.bytes c.args.self.now c.loop-i.self c.args.calls.now c.args.answers.now c.loop-i.answers n) whole c.loop-i.invariant
+    subst (λ (n : ℕ). MadeCalls g.K.Key.kind g.V.Value.kind g.K.Coded.bytes g.V.Coded.bytes c.args.self.now c.loop-i.self c.args.calls.now c.args.answers.now c.loop-i.answers n) whole c.loop-i.invariant

@@ -15,8 +15,8 @@ returns-in_err-root g c =
 
 -- a draft is at the place, and what is set reads
 drafted : (g : Over) (c : In_ok-root g)
-    → Edits g.K.Key.kind g.V.Value.kind g.K.Key.bytes g.V.Value.bytes (state_of c.self.inside.tables c.self.inside.places)
-    c.args.place (g.K.Key.bytes c.args.key.now) (value_bytes g.V.Value.bytes c.args.value) c.in_ok-root.root
+    → Edits g.K.Key.kind g.V.Value.kind g.K.Coded.bytes g.V.Coded.bytes (state_of c.self.inside.tables c.self.inside.places)
+    c.args.place (g.K.Coded.bytes c.args.key.now) (value_bytes g.V.Coded.bytes c.args.value) c.in_ok-root.root
 drafted g c = edits _ g.V.Value.kind (g.met.K.Key.readable c.args.key.now) (value_made g.V.Value.kind _ g.met.V.Value.readable c.args.value) c.self.view_is c.in_ok-root.ensures
 
 pub estimate_set-plan-requires : goal.estimate_set-plan-requires
