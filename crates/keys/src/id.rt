@@ -1,10 +1,10 @@
 // Ids: any number of 32 bits.
 ghost use Rattle.std.specs.Prelude.{◌≡◌, refl, ℕ, ◌^◌, ◌<◌, Some};
+ghost use Rattle.std.specs.Fmt.{decimal};
 ghost use Rattle.byte_rows.specs.Rows.{in_bytes};
 ghost use Rattle.keys.specs.Keys.{id_kind};
 ghost use Rattle.byte_rows.proofs.Ones.{number_made};
 ghost use Rattle.std.proofs.Common.{rules};
-ghost use Rattle.std.specs.Fmt.{decimal};
 
 use kinds::{Coded, Key};
 use std::cmp::Ordering;

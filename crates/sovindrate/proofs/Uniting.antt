@@ -1,7 +1,8 @@
 -- One setting more, found place by place. Assumes nothing.
-use Rattle.std.proofs.Common.{◌≡◌, ℕ, ◌+◌, ◌<◌, ◌≤◌, Bool, true, false, List, [], ◌∷◌, ◌++◌, Ok, Err, map, length, get_or, take, drop, set, sym, refl, ap, ◌∙◌, subst, add-one, arith, length-append, length-drop, length-take}
+use Rattle.std.proofs.Common.{◌≡◌, ℕ, ◌+◌, ◌<◌, ◌≤◌, Bool, true, false, List, [], ◌∷◌, ◌++◌, Ok, Err, map, length, get_or, take, drop, set, sym, refl, ap, ◌∙◌, subst, add-one, arith}
 use Rattle.std.specs.List.{insert}
 use Rattle.std.proofs.lemmas.List.{at_drop_more, at_drop_all, append_assoc, take_more, take_all, drop_all, drop_more, set_split, get_or-map, map-set, map-append, take-map, drop-map, length-map}
+use Rattle.std.proofs.lemmas.List.Edits.{length-insert}
 use Rattle.std.proofs.lemmas.Bool.{cond-true, cond-false, both_ways}
 use Rattle.kinds.specs.Kinds.{KeyKind, ValueKind}
 use Rattle.sovindrate.specs.declared.sheet.Setting.{Setting}
@@ -47,9 +48,6 @@ module _ (K : KeyKind) (V : ValueKind) (k : List ℕ) (row : List Pair) where
       ∙ ap (λ r. take i row ++ r) (at_drop_all (united K V k v) row i h)
       ∙ ap (λ r. r ++ (pair k v ∷ [])) (take_all i row h ∙ sym (take_all (length row) row (omega arith)))
       ∙ ap (λ r. take (length row) row ++ (pair k v ∷ r)) (sym (drop_all (length row) row (omega arith)))
-
-length_inserted : {A : Type 0} (xs : List A) (i : ℕ) (x : A) → i ≤ length xs → length (insert xs i x) ≡ length xs + 1
-length_inserted xs i x h = simp (length-append, length-take, length-drop) (omega arith)
 
 module _ {X Y : Type 0} (kb : X → List ℕ) (vb : Y → List ℕ) where
   abbrev f : Setting X Y → Pair
@@ -105,4 +103,4 @@ module _ {X Y : Type 0} (kb : X → List ℕ) (vb : Y → List ℕ) where
         (meaning kb vb zs ≡ united K V (kb k) (vb v) (meaning kb vb xs)) × (length zs ≡ length xs + 1)
     insert_united zs e st =
         let there = subst (λ l. Stands K V (kb k) (meaning kb vb l) (Err i)) whole st in
-        (ap (meaning kb vb) e ∙ meaning_inserted xs i (record { key = k; value = v }) ∙ sym (there.1 (vb v)), ap length e ∙ length_inserted xs i _ (before_within st))
+        (ap (meaning kb vb) e ∙ meaning_inserted xs i (record { key = k; value = v }) ∙ sym (there.1 (vb v)), ap length e ∙ length-insert xs i _ (before_within st))

@@ -1,10 +1,10 @@
 // Limits: a number of 32 bits, of two the larger.
 ghost use Rattle.std.specs.Prelude.{◌≡◌, refl, ℕ, ◌<◌, ◌^◌, Some};
+ghost use Rattle.std.specs.Fmt.{decimal};
 ghost use Rattle.byte_rows.specs.Rows.{in_bytes};
 ghost use Rattle.values.specs.Values.{limit_kind};
 ghost use Rattle.byte_rows.proofs.Ones.{number_made};
 ghost use Rattle.std.proofs.Common.{rules};
-ghost use Rattle.std.specs.Fmt.{decimal};
 
 use kinds::{Coded, Value};
 use std::fmt;

@@ -1,11 +1,11 @@
 // Registers: a stamp and a bar offset, of two the one with the larger stamp, at equal stamps the larger offset.
 ghost use Rattle.std.specs.Prelude.{◌≡◌, refl, ℕ, ◌<◌, ◌^◌, Some, ◌++◌, ◌∷◌};
+ghost use Rattle.std.specs.Fmt.{decimal, signed_decimal};
 ghost use Rattle.std.specs.Int.Signed.{mag};
 ghost use Rattle.byte_rows.specs.Joins.{stamped};
 ghost use Rattle.values.specs.Values.{register_kind};
 ghost use Rattle.byte_rows.proofs.Stamps.{stamped_made};
 ghost use Rattle.std.proofs.Common.{rules};
-ghost use Rattle.std.specs.Fmt.{decimal, signed_decimal};
 
 use kinds::{Coded, Value};
 use std::fmt;
