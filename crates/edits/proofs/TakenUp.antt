@@ -1,12 +1,12 @@
 -- Entries taken up one after another, and held once more each. Assumes nothing.
-use Rattle.std.proofs.Common.{◌≡◌, ℕ, ◌+◌, ◌^◌, ◌<◌, ◌≤◌, Bool, true, false, List, [], ◌∷◌, ◌++◌, map, length, get_or, take, Some, None, Option, sym, refl, ap, ◌∙◌, subst, append_assoc, arith, length-append}
+use Rattle.std.proofs.Common.{◌≡◌, ℕ, ◌+◌, ◌^◌, ◌<◌, ◌≤◌, Bool, true, false, List, [], ◌∷◌, ◌++◌, map, length, get_or, take, sym, refl, ap, ◌∙◌, subst, append_assoc, arith, length-append}
 use lib.Count.{ones}
-use Rattle.std.proofs.lemmas.List.{length-map, length_push, map_push, append-nil, take_more, take_all, length-take-le}
+use Rattle.std.proofs.lemmas.List.{length-map, length_push, map_push, take_more, length-take-le}
 use Rattle.kinds.specs.Kinds.{KeyKind}
 use Rattle.tables.specs.declared.cells.NodeCell.{NodeCell}
 use Rattle.tables.specs.declared.cells.EntryCell.{EntryCell}
 use Rattle.tables.specs.declared.cells.EntryId.{EntryId}
-use Rattle.tables.specs.Heaps.{Entries, EntryHeld, EntryMade}
+use Rattle.tables.specs.Heaps.{Entries, EntryHeld}
 use Rattle.tables.specs.Cells.{cell, entry_cell}
 use Rattle.tables.proofs.Occurrences.{occ_nil, occ_cons, occ_append}
 use Rattle.branches.specs.declared.branch.Branch.TheVariants.{Entry}
@@ -14,7 +14,7 @@ use Rattle.branches.specs.declared.handful.Handful.{Handful}
 use Rattle.branches.specs.Handfuls.{with_branch, Bundled}
 use Rattle.branches.proofs.Growing.{grown_none, grown_then, sits_same, entry_held_grown, entry_held_sits}
 use Rattle.branches.proofs.Bundles.{bundled_more, bundled_fits}
-use Rattle.edits.specs.Rowing.{Rowful, entries_in, beside, Keeping, EntriesKept, Added}
+use Rattle.edits.specs.Rowing.{Rowful, entries_in, beside, Keeping, EntriesKept}
 
 -- ---- in hand
 
