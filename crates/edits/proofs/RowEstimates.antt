@@ -68,10 +68,6 @@ byte_is : (b : Bool) → bool_byte b ≡ cond b 1 0
 byte_is true = refl
 byte_is false = refl
 
-pub byte_small : (b : Bool) → bool_byte b ≤ 1
-byte_small true = omega arith
-byte_small false = omega arith
-
 cond_once : (b : Bool) → ◌≡◌ {A = ℕ} (cond b 0 1) (cond b 0 (cond b 0 1))
 cond_once true = refl
 cond_once false = refl
