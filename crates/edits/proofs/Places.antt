@@ -1,7 +1,7 @@
 -- Where a key is in a row of entries. Assumes nothing.
-use Rattle.std.proofs.Common.{◌≡◌, ℕ, zero, suc, ◌+◌, ◌<◌, ◌≤◌, true, false, List, [], ◌∷◌, length, get_or, take, drop, sym, ap, ◌∙◌, subst, arith}
+use Rattle.std.proofs.Common.{◌≡◌, ℕ, zero, suc, ◌+◌, ◌<◌, true, false, List, [], ◌∷◌, length, get_or, take, drop, sym, ap, ◌∙◌, subst, arith}
 use Rattle.std.specs.List.{AllByRecursion}
-use Rattle.std.proofs.lemmas.List.{length-map, get_or-map, drop_more, drop_all}
+use Rattle.std.proofs.lemmas.List.{length-map, get_or-map, drop_more}
 use Rattle.std.proofs.ByRecursion.{All-more, All-weaker}
 use Rattle.kinds.specs.Kinds.{KeyKind}
 use Rattle.model.specs.Maps.{Setting, Map, Rises}
@@ -67,15 +67,3 @@ module _ {X Y : Type 0} (kb : X → List ℕ) (vb : Y → List ℕ) (es : List (
             subst (λ (i : ℕ). AllByRecursion (λ t. K.before k t.key ≡ true) (drop i (row_settings kb vb es xs))) (sym z)
             (subst (λ (l : Map). AllByRecursion (λ t. K.before k t.key ≡ true) l) (sym (drop_more (row_settings kb vb es xs) j no_setting within)) (ap (K.before k) key_in ∙ b, all));
       }
-
-    pub placed_last : (j : ℕ) → length xs ≤ j → j ≤ length xs → Passed K kb vb es xs k j → Placed K (row_settings kb vb es xs) k (length xs) false
-    placed_last j low high passed =
-        let e : j ≡ length xs = omega arith in
-        record {
-          inside = omega (arith, settings_long);
-          behind = subst (Passed K kb vb es xs k) e passed;
-          here = λ z. absurd (let w : ◌≡◌ {A = ℕ} 0 1 = cc in omega arith);
-          ahead =
-              subst (λ (l : Map). AllByRecursion (λ t. K.before k t.key ≡ true) l)
-              (sym (drop_all (length xs + 0) (row_settings kb vb es xs) (omega (arith, settings_long)))) tt;
-        }

@@ -26,9 +26,9 @@ use Rattle.branches.proofs.Settings.{lone, edited_same, look_mem, entry_old, ent
 use Rattle.branches.proofs.Picks.{sum_append}
 use Rattle.edits.specs.declared.estimate.Estimate.{Estimate}
 use Rattle.edits.specs.Sets.{value_bytes, Seen, tally}
-use Rattle.edits.specs.Rowing.{NodeIn, entries_of, setting_held, setting_at, row_settings, Placed, Split, value_held, RowEstimate}
+use Rattle.edits.specs.Rowing.{entries_of, setting_held, setting_at, row_settings, Placed, Split, value_held, RowEstimate}
 use Rattle.edits.proofs.Places.{no_setting, setting_in}
-use Rattle.edits.proofs.RowParts.{node_in, same_settings, settings_count, some_entries, placed_in, edited_place, edited_long, found_at, look_place}
+use Rattle.edits.proofs.RowParts.{same_settings, settings_count, some_entries, placed_in, edited_place, edited_long, found_at, look_place}
 use Rattle.edits.proofs.RowSets.{value_read}
 
 -- ---- the value that is there
@@ -68,10 +68,6 @@ byte_is : (b : Bool) → bool_byte b ≡ cond b 1 0
 byte_is true = refl
 byte_is false = refl
 
-pub byte_small : (b : Bool) → bool_byte b ≤ 1
-byte_small true = omega arith
-byte_small false = omega arith
-
 cond_once : (b : Bool) → ◌≡◌ {A = ℕ} (cond b 0 1) (cond b 0 (cond b 0 1))
 cond_once true = refl
 cond_once false = refl
@@ -91,9 +87,6 @@ module _ {X Y : Type 0} (K : KeyKind) (V : ValueKind) (kb : X → List ℕ) (vb 
 
   deepest : length q.prefix ≡ 8
   deepest = omega (arith, q.deep)
-
-  pub seen_node_in : NodeIn T.nodes b
-  seen_node_in = node_in K kb vb T q.notes q.roots q.in_hand q.sits q.prefix deepest q.source b q.is
 
   reads : Reads V x
   reads = value_read V x q.value_reads

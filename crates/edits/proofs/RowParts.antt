@@ -19,7 +19,7 @@ use Rattle.branches.specs.States.{Tables, Notes, Sits}
 use Rattle.branches.specs.Branches.{Is, SomeEntry}
 use Rattle.branches.proofs.Settings.{lone, length_lone, edited_split, edited_over, look_none, look_one}
 use Rattle.branches.proofs.Ends.{deep_settings, deep_entries, deep_held}
-use Rattle.edits.specs.Rowing.{NodeIn, entries_of, setting_held, setting_at, row_settings, Placed, Split}
+use Rattle.edits.specs.Rowing.{entries_of, setting_held, setting_at, row_settings, Placed, Split}
 use Rattle.edits.proofs.Places.{no_setting}
 
 -- the entries xs are those of a part, in their order
@@ -45,11 +45,6 @@ module _ {X Y : Type 0} (K : KeyKind) (kb : X → List ℕ) (vb : Y → List ℕ
     labels = deep_entries K kb vb T N R E S i.0 p a is.0 deep;
     held = deep_held K kb vb T N R E S i.0 p a is.0 deep;
   }
-
-  pub node_in : (b : Branch) → Is T N b 0 p a → NodeIn T.nodes b
-  node_in Nothing is = tt
-  node_in (Entry i) is = tt
-  node_in (Child i) is = is.0.held
 
   module _ (b : Branch) (is : Is T N b 0 p a) (xs : List ℕ) (row : xs ≡ entries_of T.nodes b) where
     pub row_says : Says T N xs a

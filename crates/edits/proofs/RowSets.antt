@@ -23,9 +23,9 @@ use Rattle.branches.proofs.Settings.{lone, entry_new, edited_same}
 use Rattle.branches.proofs.Picks.{sum_append}
 use Rattle.branches.proofs.Bundles.{bundled_none}
 use Rattle.edits.specs.Sets.{value_bytes, ValueReads, Ready}
-use Rattle.edits.specs.Rowing.{NodeIn, entries_of, Placed, Split, Rowful, entries_in, beside, Keeping, EntriesKept, Adding, Added}
+use Rattle.edits.specs.Rowing.{entries_of, Placed, Split, Rowful, entries_in, beside, Keeping, EntriesKept, Adding, Added}
 use Rattle.edits.proofs.TakenUp.{rowful_count, rowful_itself}
-use Rattle.edits.proofs.RowParts.{Says, node_in, row_says, settings_count, row_held, some_entries, placed_in, edited_place, edited_long}
+use Rattle.edits.proofs.RowParts.{Says, row_says, settings_count, row_held, some_entries, placed_in, edited_place, edited_long}
 use Rattle.edits.proofs.RowHands.{No, Got, got_none, got_before, got_after, got_new}
 use Rattle.edits.proofs.RowEnds.{above, leaf_entries, got_assembles, got_built}
 
@@ -58,9 +58,6 @@ module _ {X Y : Type 0} (K : KeyKind) (V : ValueKind) (kb : X → List ℕ) (vb 
 
   deepest : length q.prefix ≡ 8
   deepest = omega (arith, q.deep)
-
-  pub set_node_in : NodeIn T.nodes b
-  set_node_in = node_in K kb vb T q.notes q.roots q.in_hand q.sits q.prefix deepest q.source b q.is
 
   reads : Reads V x
   reads = value_read V x q.value_reads

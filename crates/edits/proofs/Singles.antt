@@ -12,9 +12,9 @@ use Rattle.plans.specs.Plans.{edited, Told, Tally}
 use Rattle.plans.proofs.Leaves.{told_none, told_one}
 use Rattle.plans.proofs.Twice.{entry_twice}
 use Rattle.branches.specs.declared.branch.Branch.{Branch}
-use Rattle.branches.specs.declared.branch.Branch.TheVariants.{Nothing, Entry}
+use Rattle.branches.specs.declared.branch.Branch.TheVariants.{Entry}
 use Rattle.branches.specs.States.{Tables, Notes, Sits}
-use Rattle.branches.specs.Branches.{Is, Single}
+use Rattle.branches.specs.Branches.{Single}
 use Rattle.branches.proofs.Settings.{lone, edited_split, edited_over, edited_same, old_entry, new_entry}
 use Rattle.tables.specs.declared.cells.EntryId.{EntryId}
 use Rattle.edits.specs.declared.estimate.Estimate.{Estimate}
@@ -70,9 +70,6 @@ told_lone K n h p a k (Some v) low e =
 -- ---- whether it was there already
 
 module _ {X Y : Type 0} (K : KeyKind) (kb : X → List ℕ) (vb : Y → List ℕ) (T : Tables X Y) (b : Branch) (x : Option (List ℕ)) (r : Bool) where
-  found_none : (N : Notes) (p : List ℕ) (level : ℕ) (a : Part) (k : List ℕ) → Is T N Nothing level p a → look a.settings k ≡ None
-  found_none N p level a k is = ap (λ (o : Part). look o.settings k) is
-
   found_entry : (id : EntryId) (N : Notes) (R E : List ℕ) → Sits K kb vb T N R E → (a : Part) (k : List ℕ) → Single T N id.0 a → Alone a.settings k → look a.settings k ≡ value_held kb vb T.entries (Some id)
   found_entry id N R E S a k one alone =
       let s : Setting = setting_at kb vb T.entries id.0 in
@@ -87,11 +84,6 @@ module _ {X Y : Type 0} (K : KeyKind) (kb : X → List ℕ) (vb : Y → List ℕ
       first : Map → List ℕ
       first [] = []
       first (t ∷ m) = t.key
-
-  pub same_nothing : b ≡ Nothing → r ≡ same_found (value_held kb vb T.entries None) x → SameAlone K kb vb T b x r
-  same_nothing e f =
-      subst (λ (y : Branch). SameAlone K kb vb T y x r) (sym e)
-      (record { same = λ N R E S level p a k low is alone. f ∙ ap (λ (y : Option (List ℕ)). same_found y x) (sym (found_none N p level a k is)) })
 
   pub same_entry : (id : EntryId) → b ≡ Entry id → r ≡ same_found (value_held kb vb T.entries (Some id)) x → SameAlone K kb vb T b x r
   same_entry id e f =

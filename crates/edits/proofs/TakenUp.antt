@@ -11,7 +11,7 @@ use Rattle.tables.specs.Cells.{cell, entry_cell}
 use Rattle.tables.proofs.Occurrences.{occ_nil, occ_cons, occ_append}
 use Rattle.branches.specs.declared.branch.Branch.TheVariants.{Entry}
 use Rattle.branches.specs.Handfuls.{with_branch, Bundled}
-use Rattle.branches.proofs.Growing.{grown_none, grown_then, sits_same, entry_held_grown, entry_held_sits}
+use Rattle.branches.proofs.Growing.{grown_then, sits_same, entry_held_grown, entry_held_sits}
 use Rattle.branches.proofs.Bundles.{bundled_more, bundled_fits}
 use Rattle.edits.specs.Rowing.{Rowful, entries_in, beside, Keeping, EntriesKept}
 
@@ -52,9 +52,6 @@ module _ (h : NodeCell) (ys : List ℕ) (R : Rowful h ys) where
 -- ---- held
 
 module _ {X Y : Type 0} (K : KeyKind) (kb : X → List ℕ) (vb : Y → List ℕ) where
-  pub kept_none : (es : List (EntryCell X Y)) (f s : ℕ) → EntriesKept K kb vb es f s [] es f s
-  kept_none es f s = record { spare = refl; sits = λ T N R E H. H; grown = λ T N n. grown_none n (λ q. ⊥) (λ k. ⊥) (beside T es f s) N }
-
   pub kept_more :
       (es : List (EntryCell X Y)) (f s : ℕ) (xs : List ℕ) (fs : List (EntryCell X Y)) (g t : ℕ) → EntriesKept K kb vb es f s xs fs g t
       → (e : ℕ) → 0 < (entry_cell fs e).holders → (gs : List (EntryCell X Y)) (h u : ℕ) → EntryHeld e fs g t gs h u

@@ -1,9 +1,6 @@
 use Rattle.std.proofs.Common.{◌∙◌}
-use Rattle.edits.proofs.RowEstimates.{seen_node_in, seen_entries, seen_own, seen_told}
+use Rattle.edits.proofs.RowEstimates.{seen_entries, seen_own, seen_told}
 use Rattle.edits.proofs.rows.estimate_row.Goals as goal
-
-pub node_of-node-requires : goal.node_of-node-requires
-node_of-node-requires g c = seen_node_in _ _ _ _ _ _ c.args.key.now c.args.value c.requires
 
 pub split_row-found-requires : goal.split_row-found-requires
 split_row-found-requires g c = seen_entries _ _ _ _ _ _ c.args.key.now c.args.value c.requires _ (c.singles.ensures ∙ c.node_of-node.ensures)

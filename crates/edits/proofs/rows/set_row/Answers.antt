@@ -1,9 +1,6 @@
 use Rattle.std.proofs.Common.{◌∙◌}
-use Rattle.edits.proofs.RowSets.{set_node_in, set_entries, set_keeps, set_adds, set_keeps_rest, set_assembles, set_built}
+use Rattle.edits.proofs.RowSets.{set_entries, set_keeps, set_adds, set_keeps_rest, set_assembles, set_built}
 use Rattle.edits.proofs.rows.set_row.Goals as goal
-
-pub node_of-node-requires : goal.node_of-node-requires
-node_of-node-requires g c = set_node_in _ _ _ _ _ _ c.args.key.now c.args.value c.requires
 
 pub split_row-requires : goal.split_row-requires
 split_row-requires g c = set_entries _ _ _ _ _ _ c.args.key.now c.args.value c.requires _ (c.singles.ensures ∙ c.node_of-node.ensures)
