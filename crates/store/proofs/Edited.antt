@@ -5,7 +5,6 @@ use Rattle.kinds.specs.declared.refusal.Refusal.{Refusal}
 use Rattle.kinds.specs.Refusals as refusals
 use Rattle.kinds.specs.Refusals.{Refused}
 use Rattle.model.specs.Calls.{Answer, took, refused, Put, Remove}
-use Rattle.model.specs.Runs.{Made}
 use Rattle.branches.specs.declared.branch.Branch.{Branch}
 use Rattle.branches.specs.States.{Tables}
 use Rattle.branches.specs.Branches.{node_of}
@@ -24,7 +23,7 @@ use Rattle.store.specs.Sets.{set_call}
 use Rattle.store.proofs.Answering.{turned_down, spot_inside}
 use Rattle.store.proofs.Unwanted.{undrafted}
 use Rattle.store.proofs.Places.{owners_set}
-use Rattle.store.proofs.Sets.{set_made, seen, set_crowded, set_no_room, set_kept, ready, set_built}
+use Rattle.store.proofs.Sets.{Edits, set_made, seen, set_crowded, set_no_room, set_kept, ready, set_built}
 
 -- what is set was made by its kind
 pub value_made : {Y : Type 0} (V : ValueKind) (vb : Y → List ℕ) → ((y : Y) → V.readable (vb y) ≡ true) → (x : Option Y) → ValueReads V (value_bytes vb x)
@@ -46,39 +45,30 @@ pub edit_undrafted :
 edit_undrafted K V kb vb S i k (Some v) key_reads value_reads f r e on h = undrafted K V kb vb S (Put i k v) (key_reads, value_reads) i f r e on _ (λ a _. refl) h
 edit_undrafted K V kb vb S i k None key_reads value_reads f r e on h = undrafted K V kb vb S (Remove i k) key_reads i f r e on _ (λ a _. refl) h
 
--- a draft is at the place, and what is set reads
-pub record Edits {X Y : Type 0} (K : KeyKind) (V : ValueKind) (kb : X → List ℕ) (vb : Y → List ℕ) (S : State X Y) (i : ℕ) (k : List ℕ) (x : Option (List ℕ)) (b : Branch) : Type 0 where
-  pub key_reads : K.readable k ≡ true
-  pub value_reads : ValueReads V x
-  pub inside : i < 64
-  pub at : get_or S.places i Empty ≡ Draft b
-
+-- a draft is at the place of a store, and so of what it has inside
 pub edits :
     {X Y : Type 0} (K : KeyKind) (V : ValueKind) {kb : X → List ℕ} {vb : Y → List ℕ} {S T : State X Y} {i : ℕ} {k : List ℕ} {x : Option (List ℕ)} {b : Branch}
     → K.readable k ≡ true → ValueReads V x → T ≡ S → (i < 64) × (get_or S.places i Empty ≡ Draft b) → Edits K V kb vb T i k x b
 edits K V key_reads value_reads e h = record { key_reads = key_reads; value_reads = value_reads; inside = h.0; at = spot_inside _ e h.1 }
 
 module _ {X Y : Type 0} {K : KeyKind} {V : ValueKind} {kb : X → List ℕ} {vb : Y → List ℕ} {S : State X Y} {i : ℕ} {k : List ℕ} {x : Option (List ℕ)} {b : Branch} (m : Edits K V kb vb S i k x b) where
-  abbrev made : Made K V (set_call i k x)
-  made = set_made K V k x m.key_reads m.value_reads i
-
   pub edit_seen : Started K V kb vb S → Seen K V kb vb S.tables b k x 8
-  edit_seen started = seen K V k x m.key_reads m.value_reads i kb vb S started.0 started.1 m.inside b m.at
+  edit_seen started = seen m started.0 started.1
 
   module _ (c : Estimate) (E : Estimated K V kb vb S.tables b k x 8 c) where
     pub edit_crowded : c.crowded ≡ true → Answered K V kb vb S S (set_call i k x) (refused (refusals.refused 10))
-    edit_crowded e = turned_down K V kb vb S (set_call i k x) 10 _ refl made (λ a rep. set_crowded K V k x m.key_reads m.value_reads i kb vb S a rep m.inside b m.at c E e)
+    edit_crowded e = turned_down K V kb vb S (set_call i k x) 10 _ refl (set_made m) (λ a rep. set_crowded m a rep c E e)
 
     module _ (calm : c.crowded ≡ false) where
       pub edit_no_room : (S.tables.spare < c.nodes) ⊎ (S.tables.entry_spare < c.entries) → Answered K V kb vb S S (set_call i k x) (refused (refusals.refused 11))
-      edit_no_room h = turned_down K V kb vb S (set_call i k x) 11 _ refl made (λ a rep. set_no_room K V k x m.key_reads m.value_reads i kb vb S a rep m.inside b m.at c E calm h)
+      edit_no_room h = turned_down K V kb vb S (set_call i k x) 11 _ refl (set_made m) (λ a rep. set_no_room m a rep c E calm h)
 
       module _ (nodes_fit : c.nodes ≤ S.tables.spare) (entries_fit : c.entries ≤ S.tables.entry_spare) where
         pub edit_kept : c.ours ≡ true → Answered K V kb vb S S (set_call i k x) (took c.nodes c.entries)
-        edit_kept o = record { account = λ a rep. set_kept K V k x m.key_reads m.value_reads i kb vb S a rep m.inside b m.at c E calm nodes_fit entries_fit o; unchanged = λ y e. refl }
+        edit_kept o = record { account = λ a rep. set_kept m a rep c E calm nodes_fit entries_fit o; unchanged = λ y e. refl }
 
         unfoldable pub edit_ready : c.ours ≡ false → Started K V kb vb S → Ready K V kb vb S.tables b k x 8
-        edit_ready o started = ready K V k x m.key_reads m.value_reads i kb vb S started.0 started.1 m.inside b m.at c E calm nodes_fit entries_fit o
+        edit_ready o started = ready m started.0 started.1 c E calm nodes_fit entries_fit o
 
         module _ (o : c.ours ≡ false) (r : Branch) (U : Tables X Y) (done : Done K V kb vb S.tables b k x 8 r U) where
           -- the old version is one of the roots
@@ -94,6 +84,6 @@ module _ {X Y : Type 0} {K : KeyKind} {V : ValueKind} {kb : X → List ℕ} {vb 
 
           pub edit_built : (W : Tables X Y) → GivenUp (node_of b) U W → Answered K V kb vb S (record { tables = W; places = set S.places i (Draft r) }) (set_call i k x) (took c.nodes c.entries)
           edit_built W gone = record {
-            account = λ a rep. set_built K V k x m.key_reads m.value_reads i kb vb S a rep m.inside b m.at c E calm nodes_fit entries_fit o r U W done gone;
+            account = λ a rep. set_built m a rep c E calm nodes_fit entries_fit o r U W done gone;
             unchanged = λ y e. absurd (took_accepts c.nodes c.entries y e);
           }

@@ -1,5 +1,5 @@
 -- A new store stands for the new account. Assumes nothing.
-use Rattle.std.proofs.Common.{◌≡◌, ℕ, zero, suc, ◌<◌, ◌≤◌, List, [], ◌∷◌, length, replicate, refl, arith}
+use Rattle.std.proofs.Common.{◌≡◌, ℕ, zero, suc, ◌<◌, ◌≤◌, List, [], ◌∷◌, length, replicate, sym, refl, subst, arith}
 use mathlib.Core.List.Memᴰ
 use mathlib.Core.List.{Memᴰ}
 use Rattle.kinds.specs.Kinds.{KeyKind, ValueKind}
@@ -16,7 +16,7 @@ use Rattle.tables.proofs.NodeCounts.{inside}
 use Rattle.tables.proofs.EntryCounts.{inside_entries}
 use Rattle.branches.specs.States.{Tables, Notes}
 use Rattle.store.specs.declared.spot.Spot.TheVariants.{Empty}
-use Rattle.store.specs.Stores.{Show, Represents}
+use Rattle.store.specs.Stores.{State, Show, Represents}
 use Rattle.store.specs.Fresh.{new_state}
 
 -- notes of nothing: no cell is held
@@ -88,3 +88,9 @@ module _ {X Y : Type 0} (K : KeyKind) (V : ValueKind) (kb : X → List ℕ) (vb 
         sixty_four = refl;
         shows = show_empty (new_state ds fs).tables no_notes 64;
       }
+
+  -- and so does a store that has the state of a new one
+  pub starts_fresh :
+      (cs ds : List NodeCell) (es fs : List (EntryCell X Y)) (S : State X Y) → Formatted cs ds es fs → S ≡ new_state ds fs
+      → Represents K V kb vb S (fresh (length cs) (length es))
+  starts_fresh cs ds es fs S F e = subst (λ (T : State X Y). Represents K V kb vb T (fresh (length cs) (length es))) (sym e) (fresh_represents cs ds es fs F)

@@ -8,7 +8,6 @@ pub mod Unwanted
 pub mod Drafted
 pub mod Ended
 pub mod Fresh
-pub mod Begun
 pub mod Sets
 pub mod Edited
 pub mod Runs

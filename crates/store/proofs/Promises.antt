@@ -13,7 +13,7 @@ use Rattle.store.specs.declared.calls.Answer.{Answer}
 use Rattle.store.specs.Stores.{State}
 use Rattle.store.specs.Fresh.{new_state}
 use Rattle.store.specs.Runs.{Promised, first_calls, MadeCalls, Completed}
-use Rattle.store.proofs.Begun.{starts_fresh}
+use Rattle.store.proofs.Fresh.{starts_fresh}
 
 -- the model's laws at an account that calls lead to
 pub promised : (K : KeyKind) (V : ValueKind) (a : Account) → Reached K V a → Promised K V a

@@ -1,4 +1,4 @@
-use Rattle.store.proofs.Begun.{starts_fresh}
+use Rattle.store.proofs.Fresh.{starts_fresh}
 use Rattle.store.proofs.starting.start.Goals as goal
 
 pub returns-in-Ok : goal.returns-in-Ok

@@ -3,7 +3,8 @@ use Rattle.edits.specs.Sets.{value_bytes}
 use Rattle.branches.specs.States.{tables_of}
 use Rattle.store.specs.Views.{state_of}
 use Rattle.store.proofs.Answering.{asked_inside, answered_inside, still_started}
-use Rattle.store.proofs.Edited.{Edits, value_made, edits, edit_undrafted, edit_seen, edit_crowded, edit_no_room, edit_kept, edit_ready, old_root, edit_built}
+use Rattle.store.proofs.Sets.{Edits}
+use Rattle.store.proofs.Edited.{value_made, edits, edit_undrafted, edit_seen, edit_crowded, edit_no_room, edit_kept, edit_ready, old_root, edit_built}
 use Rattle.store.proofs.store.Store.set_at.Given.{Over}
 use Rattle.store.proofs.store.Store.set_at.Goals as goal
 use Rattle.store.proofs.store.Store.set_at.Goals.{In_ok-root, then-plan-self-via-then-plan-self, then-plan-self-via-else-plan-self+then-plan-self-2}
