@@ -7,7 +7,7 @@ use super::sheet::Setting;
 use super::spelled::{Misspelt, Spelled};
 use super::unite::unite;
 use keys::{Bobbin, Id, Path};
-use kinds::{Coded, Key, Value};
+use kinds::{Coded, Key, Refusal, Value};
 use std::alloc::Global;
 use values::{Flags, Limit, Register};
 
@@ -21,7 +21,7 @@ struct NumberedLine<'a> {
 // A line that a kind refused.
 #[derive(Clone, Copy)]
 struct RefusedLine {
-    number: u8,
+    refusal: Refusal,
     line: usize,
 }
 
@@ -51,8 +51,7 @@ impl Account {
         match T::parse(word) {
             Ok(x) => Ok(Some(x)),
             Err(Misspelt::Refused(refusal)) => {
-                let number = refusal.number();
-                self.refused.push(RefusedLine { number, line })?;
+                self.refused.push(RefusedLine { refusal, line })?;
                 Ok(None)
             }
             Err(Misspelt::Malformed) => Err(Fault::Line {
@@ -207,7 +206,7 @@ impl Account {
         writeln!(self.out, "settings {settings}")?;
         writeln!(self.out, "joins {joins}")?;
         for refused in self.refused.iter() {
-            let number = refused.number;
+            let number = refused.refusal.number();
             let line = refused.line;
             writeln!(self.out, "refused {number} at line {line}")?;
         }
