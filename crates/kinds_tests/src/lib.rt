@@ -58,7 +58,7 @@ mod tests {
         let mut row = [0u8; 24];
         path(b"r7.pb07")?.write(&mut row);
         assert!(rt; Path::read(&row).is_some());
-        assert!(rt; Path::read(&row[..23]).is_none(), "a short row");
+        assert!(rt; Path::read(&row[0..23]).is_none(), "a short row");
         row[12] = b'x';
         assert!(rt; Path::read(&row).is_none(), "a byte after the filling");
         assert!(rt; Path::read(&[0; 24]).is_none(), "no text");
