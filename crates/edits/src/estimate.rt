@@ -48,7 +48,7 @@ impl Estimate {
         }
     }
 
-    // Of a row of so many settings, with a value that was set or none, and the same as before or not.
+    // Of a row of so many settings, of which one may be new, where the row is the source's or not.
     pub(crate) fn of_row(count: usize, some: bool, same: bool) -> Estimate
         ensures { RowEstimate count some same result }
     {
@@ -57,8 +57,8 @@ impl Estimate {
             ours: same,
             theirs: same,
             crowded: count > 16,
-            nodes: if count > 1 && !same { 1 } else { 0 },
-            entries: if some && !same { 1 } else { 0 },
+            nodes: usize::from(count > 1 && !same),
+            entries: usize::from(some && !same),
         }
     }
 
@@ -82,12 +82,9 @@ impl Estimate {
         requires { self.nodes ≤ 9 * 65536 }
         ensures { tally result ≡ closed level (tally self) }
     {
-        let most = if level < 8 { 1 } else { 0 };
-        if self.size <= most || self.ours || self.theirs {
-            return self;
-        }
+        let new = self.size > usize::from(level < 8) && !self.ours && !self.theirs;
         Estimate {
-            nodes: self.nodes + 1,
+            nodes: self.nodes + usize::from(new),
             ..self
         }
     }
