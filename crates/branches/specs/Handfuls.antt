@@ -2,6 +2,7 @@
 use Rattle.std.specs.Prelude.{◌≡◌, ℕ, ◌+◌, ◌^◌, ◌<◌, Bool, true, false, cond, ◌||◌, List, ◌++◌, length, take, replicate, count_by, count_ones, nat_lt, slice_index, slice_set}
 use Rattle.std.specs.Simd.Lanes.{mask_l}
 use Rattle.tables.specs.declared.cells.NodeCell.{NodeCell}
+use Rattle.tables.specs.declared.table.Table.{Table}
 use Rattle.tables.specs.Chains.{occ}
 use Rattle.tables.specs.Cells.{cell, listed}
 use Rattle.tables.specs.Heaps.{Nodes, NodeMade}
@@ -61,3 +62,10 @@ abbrev pub Assembled : NodeCell → ℕ → Branch → List NodeCell → ℕ →
 Assembled h level Nothing cs f s ds g t = (count_ones h.nodemap ≡ 0) × ((count_ones h.datamap ≡ 0) × ((ds ≡ cs) × ((g ≡ f) × (t ≡ s))))
 Assembled h level (Entry e) cs f s ds g t = (level < 8) × ((count_ones h.nodemap ≡ 0) × ((count_ones h.datamap ≡ 1) × ((e.0 ≡ slice_index h.entries 0) × ((ds ≡ cs) × ((g ≡ f) × (t ≡ s))))))
 Assembled h level (Child i) cs f s ds g t = (makes_node h level ≡ true) × NodeMade i.0 (node_cell h level) cs f s ds g t
+
+-- the same of the code's node table, as it was and as it is now
+abbrev pub MayAssemble : NodeCell → ℕ → Table NodeCell → Type 0
+MayAssemble h level t = Assembling h level t.cells.now t.free t.spare
+
+abbrev pub IsAssembled : NodeCell → ℕ → Branch → Table NodeCell → Table NodeCell → Type 0
+IsAssembled h level b t u = Assembled h level b t.cells.now t.free t.spare u.cells.now u.free u.spare

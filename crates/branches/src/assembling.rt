@@ -1,6 +1,6 @@
 // Taking up the branches of a node digit by digit.
 ghost use Rattle.std.specs.Prelude.{◌≡◌, ◌^◌, ◌<◌};
-ghost use Rattle.branches.specs.Handfuls.{nothing_in_hand, with_branch, Assembling, Assembled};
+ghost use Rattle.branches.specs.Handfuls.{nothing_in_hand, with_branch, MayAssemble, IsAssembled};
 
 use super::branch::Branch;
 use tables::{Digit, EntryId, NodeCell, NodeTable, make_node};
@@ -35,8 +35,8 @@ pub fn take_up(hand: NodeCell, digit: Digit, branch: Branch) -> NodeCell
 
 // What is in hand as a branch: nothing, an entry alone, or a new node over it.
 pub fn assemble(nodes: &mut NodeTable, hand: NodeCell, level: u8) -> Branch
-    requires { Assembling hand level nodes.old.cells.now nodes.old.free nodes.old.spare }
-    ensures { Assembled hand level result nodes.old.cells.now nodes.old.free nodes.old.spare nodes.new.cells.now nodes.new.free nodes.new.spare }
+    requires { MayAssemble hand level nodes.old }
+    ensures { IsAssembled hand level result nodes.old nodes.new }
 {
     if hand.nodemap.count_ones() == 0 {
         let singles = hand.datamap.count_ones();

@@ -6,6 +6,7 @@ use Rattle.model.specs.Maps.{Setting, Map, Rises}
 use Rattle.tables.specs.declared.cells.NodeCell.{NodeCell}
 use Rattle.tables.specs.declared.cells.EntryCell.{EntryCell}
 use Rattle.tables.specs.declared.cells.EntryId.{EntryId}
+use Rattle.tables.specs.declared.table.Table.{Table}
 use Rattle.tables.specs.Cells.{cell, entry_cell, singles}
 use Rattle.tables.specs.Heaps.{Entries, EntryMade}
 use Rattle.branches.specs.declared.branch.Branch.{Branch}
@@ -105,6 +106,19 @@ abbrev pub Added : {X Y : Type 0} → X → Option Y → NodeCell → List (Entr
 Added key (Some v) hand es f s next fs g t =
     (e : ℕ) × (EntryMade e (record { held = Some (key, v); holders = 1; next = 0 }) es f s fs g t × Rowful next (entries_in hand ++ (e ∷ [])))
 Added key None hand es f s next fs g t = (next ≡ hand) × ((fs ≡ es) × ((g ≡ f) × (t ≡ s)))
+
+-- the same of the code's entry table, as it was and as it is now
+abbrev pub MayKeep : {X Y : Type 0} → KeyKind → (X → List ℕ) → (Y → List ℕ) → Table (EntryCell X Y) → List ℕ → NodeCell → Type 0
+MayKeep K kb vb t xs hand = Keeping K kb vb t.cells.now t.free t.spare xs hand
+
+abbrev pub AreKept : {X Y : Type 0} → KeyKind → (X → List ℕ) → (Y → List ℕ) → List ℕ → Table (EntryCell X Y) → Table (EntryCell X Y) → Type 0
+AreKept K kb vb xs t u = EntriesKept K kb vb t.cells.now t.free t.spare xs u.cells.now u.free u.spare
+
+abbrev pub MayAdd : {X Y : Type 0} → Table (EntryCell X Y) → Option Y → NodeCell → Type 0
+MayAdd t value hand = Adding t.cells.now t.free t.spare value hand
+
+abbrev pub IsAdded : {X Y : Type 0} → X → Option Y → NodeCell → NodeCell → Table (EntryCell X Y) → Table (EntryCell X Y) → Type 0
+IsAdded key value hand next t u = Added key value hand t.cells.now t.free t.spare next u.cells.now u.free u.spare
 
 -- ---- estimates
 

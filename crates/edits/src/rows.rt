@@ -6,7 +6,7 @@ ghost use Rattle.tables.specs.Cells.{singles};
 ghost use Rattle.branches.specs.Branches.{SomeEntry};
 ghost use Rattle.branches.specs.States.{tables_of};
 ghost use Rattle.edits.specs.Sets.{value_bytes, Seen, Estimated, Ready, Done};
-ghost use Rattle.edits.specs.Rowing.{NodeIn, entries_of, Found, Split, entries_in, Rowful, Keeping, EntriesKept, Adding, Added, value_held};
+ghost use Rattle.edits.specs.Rowing.{NodeIn, entries_of, Found, Split, entries_in, Rowful, MayKeep, AreKept, MayAdd, IsAdded, value_held};
 
 use super::estimate::Estimate;
 use branches::{Branch, assemble, empty_handed, setting_of, take_up};
@@ -15,7 +15,7 @@ use std::cmp::Ordering;
 use tables::{Digit, EntryId, EntryTable, NodeCell, NodeTable, Tables, hold_entry, make_entry};
 
 // A branch at the deepest level as a node with the same entries.
-fn node_of(nodes: &NodeTable, branch: Branch) -> NodeCell
+fn as_node(nodes: &NodeTable, branch: Branch) -> NodeCell
     requires { NodeIn nodes.now.cells.now branch }
     ensures { singles result ≡ entries_of nodes.now.cells.now branch }
 {
@@ -84,8 +84,8 @@ fn keep_row<K: Key, V: Value>(
     row: &[u16],
     hand: NodeCell,
 ) -> NodeCell
-    requires { Keeping K.kind K.bytes V.bytes entries.old.cells.now entries.old.free entries.old.spare row.now hand }
-    ensures kept { EntriesKept K.kind K.bytes V.bytes entries.old.cells.now entries.old.free entries.old.spare row.now entries.new.cells.now entries.new.free entries.new.spare }
+    requires { MayKeep K.kind K.bytes V.bytes entries.old row.now hand }
+    ensures kept { AreKept K.kind K.bytes V.bytes row.now entries.old entries.new }
     ensures hand { Rowful result (entries_in hand ++ row.now) }
 {
     let mut all = hand;
@@ -104,8 +104,8 @@ fn take_new<K: Key, V: Value>(
     value: Option<V>,
     hand: NodeCell,
 ) -> NodeCell
-    requires { Adding entries.old.cells.now entries.old.free entries.old.spare value hand }
-    ensures { Added key.now value hand entries.old.cells.now entries.old.free entries.old.spare result entries.new.cells.now entries.new.free entries.new.spare }
+    requires { MayAdd entries.old value hand }
+    ensures { IsAdded key.now value hand result entries.old entries.new }
 {
     match value {
         Some(new) => take_next(hand, make_entry(entries, *key, new)),
@@ -123,7 +123,7 @@ pub fn set_row<K: Key, V: Value>(
     requires { Ready K.kind V.kind K.bytes V.bytes (tables_of tables.old) at (K.bytes key.now) (value_bytes V.bytes value) 0 }
     ensures { Done K.kind V.kind K.bytes V.bytes (tables_of tables.old) at (K.bytes key.now) (value_bytes V.bytes value) 0 result (tables_of tables.new) }
 {
-    let node = node_of(&tables.nodes, at);
+    let node = as_node(&tables.nodes, at);
     let (before, _, after) = split_row(&tables.entries, node.singles(), key);
     let kept = keep_row(&mut tables.entries, before, empty_handed());
     let put = take_new(&mut tables.entries, key, value, kept);
@@ -160,7 +160,7 @@ pub fn estimate_row<K: Key, V: Value>(
     requires { Seen K.kind V.kind K.bytes V.bytes (tables_of tables.now) at (K.bytes key.now) (value_bytes V.bytes value) 0 }
     ensures { Estimated K.kind V.kind K.bytes V.bytes (tables_of tables.now) at (K.bytes key.now) (value_bytes V.bytes value) 0 result }
 {
-    let node = node_of(&tables.nodes, at);
+    let node = as_node(&tables.nodes, at);
     let (before, found, after) = split_row(&tables.entries, node.singles(), key);
     let same = same_value(&tables.entries, found, value);
     let some = value.is_some();

@@ -3,6 +3,7 @@ use Rattle.std.specs.Prelude.{◌≡◌, ℕ, ◌<◌, ◌⊎◌, List, [], ◌+
 use Rattle.kinds.specs.declared.refusal.Refusal.{Refusal}
 use Rattle.kinds.specs.Refusals.{shown, refused}
 use Rattle.tables.specs.declared.cells.NodeCell.{NodeCell}
+use Rattle.tables.specs.declared.table.Table.{Table}
 use Rattle.tables.specs.Cells.{cell, entry_cell}
 use Rattle.tables.specs.Heaps.{Nodes, Entries, Entryless, NodeLeft, EntryLeft, NodeHeld}
 use Rattle.branches.specs.declared.branch.Branch.{Branch}
@@ -52,6 +53,10 @@ abbrev pub RootHeld : Branch → List NodeCell → ℕ → ℕ → List NodeCell
 RootHeld Nothing cs f s ds g t = (ds ≡ cs) × (g ≡ f) × (t ≡ s)
 RootHeld (Entry e) cs f s ds g t = (ds ≡ cs) × (g ≡ f) × (t ≡ s)
 RootHeld (Child i) cs f s ds g t = NodeHeld i.0 cs f s ds g t
+
+-- the same of the code's node table, as it was and as it is now
+abbrev pub RootIsHeld : Branch → Table NodeCell → Table NodeCell → Type 0
+RootIsHeld b t u = RootHeld b t.cells.now t.free t.spare u.cells.now u.free u.spare
 
 -- the references xs to nodes are given up, with every node and entry that nobody holds any more; what is still held stays as it was
 pub record GivenUp {X Y : Type 0} (xs : List ℕ) (T U : Tables X Y) : Type 0 where

@@ -26,6 +26,7 @@ impl<'a, K: Key, V: Value> Store<'a, K, V> {
         ensures inside { IfOk result (λ _. place < 64) }
         ensures answered { Answered K.kind V.kind K.bytes V.bytes self.old self.new (OpenFrom place from) (done_shown result) }
     {
+        // a place that there is not is refused before the other is looked at
         self.spot_at(place)?;
         let root = self.published_at(from)?;
         self.empty_at(place)?;

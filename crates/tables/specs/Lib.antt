@@ -5,4 +5,5 @@ pub mod Notes
 pub mod Slots
 pub mod Walks
 pub mod Starts
+pub mod Seen
 pub mod Bridges

@@ -1,6 +1,6 @@
 // What the cells of the two tables hold.
 ghost use Rattle.std.specs.Prelude.{◌≡◌, ℕ, replicate, None};
-ghost use Rattle.tables.specs.Cells.{blank as blank_node, blank_entry, kids as kids_of, singles as singles_of};
+ghost use Rattle.tables.specs.Cells.{blank as blank_node, blank_entry, listed, kids as kids_of, singles as singles_of};
 
 // The number of a node cell.
 #[derive(Clone, Copy)]
@@ -53,6 +53,13 @@ pub struct NodeCell {
     pub level: u8,
 }
 
+// The slots of a node that are taken: as many as its map has bits.
+fn row_of(map: u16, slots: &[u16; 16]) -> &[u16]
+    ensures { result.now ≡ listed map slots.now }
+{
+    &slots[..map.count_ones() as usize]
+}
+
 impl NodeCell {
     // An empty cell, to fill a table with.
     pub fn empty() -> NodeCell
@@ -73,16 +80,14 @@ impl NodeCell {
     pub fn singles(&self) -> &[u16]
         ensures { result.now ≡ singles_of self.now }
     {
-        let count = self.datamap.count_ones() as usize;
-        &self.entries[..count]
+        row_of(self.datamap, &self.entries)
     }
 
     // The numbers of its children, by rank.
     pub fn kids(&self) -> &[u16]
         ensures { result.now ≡ kids_of self.now }
     {
-        let count = self.nodemap.count_ones() as usize;
-        &self.children[..count]
+        row_of(self.nodemap, &self.children)
     }
 }
 

@@ -1,7 +1,8 @@
 // The entry table.
 ghost use Rattle.std.specs.Prelude.{◌≡◌, ℕ, ◌<◌, ◌≤◌, List, [], ◌∷◌, length, Some, count_ones};
+ghost use Rattle.tables.specs.Seen.{EntriesOf, EntryIsHeld, EntryIsMade, EntryIsReleased};
 ghost use Rattle.tables.specs.Cells.{cell, entry_cell};
-ghost use Rattle.tables.specs.Heaps.{Entries, EntryHeld, EntryMade, EntryReleased, inner_entries};
+ghost use Rattle.tables.specs.Heaps.{Entries, inner_entries};
 ghost use Rattle.tables.specs.declared.cells.NodeCell.{NodeCell};
 
 use super::cells::{EntryCell, EntryId};
@@ -29,8 +30,8 @@ pub fn entry_cell_at<K: Copy, V: Copy>(entries: &EntryTable<K, V>, at: usize) ->
 // One more holder of an entry. Its count cannot overflow: it is at most the references from outside and 16 for each node cell.
 pub fn hold_entry<K: Copy, V: Copy>(entries: &mut EntryTable<K, V>, id: EntryId)
     requires held { 0 < (entry_cell entries.old.cells.now id.0).holders }
-    requires heap { (cs : List NodeCell) × ((R : List ℕ) × (Entries cs entries.old.cells.now entries.old.free entries.old.spare R × ((length R ≤ 65535) × ((length cs ≤ 65535) × ((i : ℕ) → count_ones (cell cs i).datamap ≤ 16))))) }
-    ensures { EntryHeld id.0 entries.old.cells.now entries.old.free entries.old.spare entries.new.cells.now entries.new.free entries.new.spare }
+    requires heap { (cs : List NodeCell) × ((R : List ℕ) × (EntriesOf cs entries.old R × ((length R ≤ 65535) × ((length cs ≤ 65535) × ((i : ℕ) → count_ones (cell cs i).datamap ≤ 16))))) }
+    ensures { EntryIsHeld id.0 entries.old entries.new }
 {
     entries.hold(id.0 as usize);
 }
@@ -38,8 +39,8 @@ pub fn hold_entry<K: Copy, V: Copy>(entries: &mut EntryTable<K, V>, id: EntryId)
 // A new entry in a free cell, with one holder.
 pub fn make_entry<K: Copy, V: Copy>(entries: &mut EntryTable<K, V>, key: K, value: V) -> EntryId
     requires some { 0 < entries.old.spare }
-    requires heap { (cs : List NodeCell) × ((R : List ℕ) × Entries cs entries.old.cells.now entries.old.free entries.old.spare R) }
-    ensures { EntryMade result.0 (record { held = Some (key, value); holders = 1; next = 0 }) entries.old.cells.now entries.old.free entries.old.spare entries.new.cells.now entries.new.free entries.new.spare }
+    requires heap { (cs : List NodeCell) × ((R : List ℕ) × EntriesOf cs entries.old R) }
+    ensures { EntryIsMade result.0 (record { held = Some (key, value); holders = 1; next = 0 }) entries.old entries.new }
 {
     EntryId(entries.take(EntryCell {
         held: Some((key, value)),
@@ -50,8 +51,8 @@ pub fn make_entry<K: Copy, V: Copy>(entries: &mut EntryTable<K, V>, key: K, valu
 
 // Gives up one holder of an entry; without any left the cell is emptied and goes to the chain of free cells.
 pub fn release_entry<K: Copy, V: Copy>(entries: &mut EntryTable<K, V>, id: EntryId)
-    requires { (cs : List NodeCell) × ((R : List ℕ) × Entries cs entries.old.cells.now entries.old.free entries.old.spare (id.0 ∷ R)) }
-    ensures { EntryReleased id.0 entries.old.cells.now entries.old.free entries.old.spare entries.new.cells.now entries.new.free entries.new.spare }
+    requires { (cs : List NodeCell) × ((R : List ℕ) × EntriesOf cs entries.old (id.0 ∷ R)) }
+    ensures { EntryIsReleased id.0 entries.old entries.new }
 {
     let _ = entries.let_go(id.0);
 }

@@ -1,8 +1,9 @@
 // The node table.
 ghost use Rattle.std.specs.Prelude.{◌≡◌, ℕ, ◌<◌, ◌≤◌, List, [], ◌∷◌, ◌++◌, length};
+ghost use Rattle.tables.specs.Seen.{NodesOf, NodeIsHeld, NodeIsMade, NodesAreReleased};
 ghost use Rattle.tables.specs.Chains.{occ};
 ghost use Rattle.tables.specs.Cells.{cell, kids};
-ghost use Rattle.tables.specs.Heaps.{Nodes, Entryless, NodeHeld, NodeMade, NodesReleased, inner_entries};
+ghost use Rattle.tables.specs.Heaps.{Nodes, Entryless, inner_entries};
 
 use super::cells::{Cell, NodeCell, NodeId};
 use super::table::{Table, format};
@@ -23,8 +24,8 @@ pub(crate) fn format_nodes(cells: &mut [NodeCell])
 // One more holder of a node. Its count cannot overflow: it is at most the references from outside and 16 for each cell.
 pub fn hold_node(nodes: &mut NodeTable, id: NodeId)
     requires held { 0 < (cell nodes.old.cells.now id.0).holders }
-    requires heap { (R : List ℕ) × (Nodes nodes.old.cells.now nodes.old.free nodes.old.spare R × (length R ≤ 65535)) }
-    ensures { NodeHeld id.0 nodes.old.cells.now nodes.old.free nodes.old.spare nodes.new.cells.now nodes.new.free nodes.new.spare }
+    requires heap { (R : List ℕ) × (NodesOf nodes.old R × (length R ≤ 65535)) }
+    ensures { NodeIsHeld id.0 nodes.old nodes.new }
 {
     nodes.hold(id.0 as usize);
 }
@@ -32,9 +33,9 @@ pub fn hold_node(nodes: &mut NodeTable, id: NodeId)
 // A new node in a free cell, with one holder, whatever holders and next cell `new` names; it takes over one holder of each of its children and entries.
 pub fn make_node(nodes: &mut NodeTable, new: NodeCell) -> NodeId
     requires some { 0 < nodes.old.spare }
-    requires heap { (R : List ℕ) × Nodes nodes.old.cells.now nodes.old.free nodes.old.spare (kids new ++ R) }
+    requires heap { (R : List ℕ) × NodesOf nodes.old (kids new ++ R) }
     requires below { (k : ℕ) → 0 < occ k (kids new) → (cell nodes.old.cells.now k).level < new.level }
-    ensures { NodeMade result.0 (record { datamap = new.datamap; nodemap = new.nodemap; entries = new.entries; children = new.children; holders = 1; next = 0; level = new.level }) nodes.old.cells.now nodes.old.free nodes.old.spare nodes.new.cells.now nodes.new.free nodes.new.spare }
+    ensures { NodeIsMade result.0 (record { datamap = new.datamap; nodemap = new.nodemap; entries = new.entries; children = new.children; holders = 1; next = 0; level = new.level }) nodes.old nodes.new }
 {
     NodeId(nodes.take(new.with(1, 0)))
 }
@@ -42,8 +43,8 @@ pub fn make_node(nodes: &mut NodeTable, new: NodeCell) -> NodeId
 // Gives up one holder of a node: without any left, the cell goes to the chain and its children are released.
 // A recursion over node numbers and holder counts, not generic; the level falls.
 pub(crate) fn release_nodes(nodes: &mut NodeTable, id: NodeId)
-    requires { (R : List ℕ) × Nodes nodes.old.cells.now nodes.old.free nodes.old.spare (id.0 ∷ R) }
-    ensures { NodesReleased (id.0 ∷ []) nodes.old.cells.now nodes.old.free nodes.old.spare nodes.new.cells.now nodes.new.free nodes.new.spare }
+    requires { (R : List ℕ) × NodesOf nodes.old (id.0 ∷ R) }
+    ensures { NodesAreReleased (id.0 ∷ []) nodes.old nodes.new }
 {
     let old = nodes.cells[id.0 as usize];
     if nodes.let_go(id.0) {

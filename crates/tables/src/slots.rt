@@ -30,11 +30,7 @@ fn rank(map: u16, digit: Digit) -> usize
 fn slot_at(map: u16, slots: &[u16; 16], digit: Digit) -> Option<u16>
     ensures { AtDigit (λ n. n) map slots.now digit.number result }
 {
-    if has_digit(map, digit) {
-        Some(slots[rank(map, digit)])
-    } else {
-        None
-    }
+    has_digit(map, digit).then(|| slots[rank(map, digit)])
 }
 
 // The entry of a node at a digit.

@@ -6,9 +6,6 @@ use Rattle.branches.proofs.asking.+count.Goals as goal
 pub loop-child-init : goal.loop-child-init
 loop-child-init g t c = begun _ _ _ (tables_of c.args.tables.now) _ _ c.in-Child.id _ _ c.in-Child.is c.kids-child-items.ensures c.singles-total.ensures
 
-pub overflow_sub-level : goal.overflow_sub-level
-overflow_sub-level g t c = midway_level _ _ _ _ _ _ _ _ _ c.loop-child.invariant (omega arith) c.requires
-
 pub count-total-requires : goal.count-total-requires
 count-total-requires g t c κs within = (
   omega (arith, midway_level _ _ _ _ _ _ _ _ _ c.loop-child.invariant (omega arith) c.requires, c.decreases),

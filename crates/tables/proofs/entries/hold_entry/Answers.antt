@@ -2,9 +2,6 @@ use Rattle.std.proofs.Common.{arith}
 use Rattle.tables.proofs.EntryCounts.{inside_entries, holders_fit, held_step}
 use Rattle.tables.proofs.entries.hold_entry.Goals as goal
 
-pub hold-requires-clause-inside : goal.hold-requires-clause-inside
-hold-requires-clause-inside g c = inside_entries _ _ c.requires.held
-
 pub hold-requires-clause-few : goal.hold-requires-clause-few
 hold-requires-clause-few g c =
     let h = c.requires.heap.1.1 in

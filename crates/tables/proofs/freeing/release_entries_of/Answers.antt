@@ -11,6 +11,3 @@ pub loop-entry-preserved : goal.loop-entry-preserved
 loop-entry-preserved g c =
     entry_given_up _ _ _ _ _ _ _ _ c.loop-entry.invariant _ _ _ (omega (arith, ap length c.singles-entry-items.ensures))
     (rw c.singles-entry-items.ensures at c.release_entry.ensures)
-
-pub returns : goal.returns
-returns g c = all_given_up _ _ _ _ _ _ _ _ c.loop-entry.invariant (omega (arith, ap length c.singles-entry-items.ensures))

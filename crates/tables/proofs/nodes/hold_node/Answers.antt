@@ -3,9 +3,6 @@ use Rattle.tables.proofs.NodeCounts.{inside, holders_le}
 use Rattle.tables.proofs.Making.{more_held}
 use Rattle.tables.proofs.nodes.hold_node.Goals as goal
 
-pub hold-requires-clause-inside : goal.hold-requires-clause-inside
-hold-requires-clause-inside c = inside _ _ c.requires.held
-
 pub hold-requires-clause-few : goal.hold-requires-clause-few
 hold-requires-clause-few c = omega (arith, holders_le _ _ _ c.args.id.0 _ c.requires.heap.1.0, c.requires.heap.1.0.short, c.requires.heap.1.1)
 

@@ -2,7 +2,7 @@ use Rattle.std.proofs.Common.{sym, ap, ◌∙◌}
 use lib.Count.{ones}
 use Rattle.tables.specs.Cells.{listed, singles}
 use Rattle.edits.specs.Rowing.{entries_of}
-use Rattle.edits.proofs.rows.node_of.Goals as goal
+use Rattle.edits.proofs.rows.as_node.Goals as goal
 
 pub returns-in-Nothing : goal.returns-in-Nothing
 unfolding listed ones
