@@ -20,8 +20,7 @@ impl fmt::Display for Id {
     ghost output = { λ k. Some (decimal k.number) };
 
     fn fmt<W: fmt::Write>(&self, f: &mut fmt::Formatter<W>) -> fmt::Result {
-        let number = self.number;
-        write!(f, "{number}")
+        write!(f, "{}", self.number)
     }
 }
 

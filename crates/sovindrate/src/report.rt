@@ -71,10 +71,10 @@ impl Account {
     ) -> Result<(), Fault> {
         let key: Option<K> = self.parse(line, key)?;
         let value: Option<V> = self.parse(line, value)?;
-        if let (Some(key), Some(value)) = (key, value) {
-            if unite(settings, key, value)? {
-                self.joins = self.joins.saturating_add(1);
-            }
+        if let (Some(key), Some(value)) = (key, value)
+            && unite(settings, key, value)?
+        {
+            self.joins = self.joins.saturating_add(1);
         }
         Ok(())
     }
@@ -105,7 +105,7 @@ impl Account {
         Ok(())
     }
 
-    // Unites the lines of a sheet, up to where the next one begins, and writes what came of it.
+    // Unites the lines of a sheet and writes what came of it.
     fn unite_sheet<K: Key + Spelled, V: Value + Spelled>(
         &mut self,
         lines: &[NumberedLine],
@@ -117,8 +117,7 @@ impl Account {
                 Line::Setting { key, value } => {
                     self.add_setting(&mut settings, line.number, key, value)?;
                 }
-                Line::Sheet { .. } => break,
-                Line::Other => {
+                Line::Sheet { .. } | Line::Other => {
                     return Err(Fault::Line {
                         number: line.number,
                         expected: "KEY VALUE, or sheet KEYKIND VALUEKIND",
@@ -171,23 +170,16 @@ impl Account {
         }
     }
 
-    // The lines from each sheet's first to the next sheet are a part; what comes before the first sheet is blank.
+    // The lines from each sheet's first to the next sheet are a part; what comes before the first sheet has to be blank.
     fn unite_all(&mut self, lines: &[NumberedLine]) -> Result<(), Fault> {
         for part in lines.chunk_by(|_, next| !matches!(next.says, Line::Sheet { .. })) {
-            if let Some(
-                (
-                    NumberedLine {
-                        number,
-                        says: Line::Sheet {
-                            key_kind,
-                            value_kind,
-                        },
-                    },
-                    rest,
-                ),
-            ) = part.split_first()
+            if let [first, rest @ ..] = part
+                && let Line::Sheet {
+                    key_kind,
+                    value_kind,
+                } = first.says
             {
-                self.unite_by_kinds(key_kind, value_kind, *number, rest)?;
+                self.unite_by_kinds(key_kind, value_kind, first.number, rest)?;
             } else if let Some(line) = part.iter().find(|line| !matches!(line.says, Line::Blank)) {
                 return Err(Fault::Line {
                     number: line.number,
@@ -199,12 +191,10 @@ impl Account {
     }
 
     fn write_account(&mut self, lines: usize) -> Result<(), Fault> {
-        let settings = self.settings;
-        let joins = self.joins;
         writeln!(self.out, "account")?;
         writeln!(self.out, "lines {lines}")?;
-        writeln!(self.out, "settings {settings}")?;
-        writeln!(self.out, "joins {joins}")?;
+        writeln!(self.out, "settings {}", self.settings)?;
+        writeln!(self.out, "joins {}", self.joins)?;
         for refused in self.refused.iter() {
             let number = refused.refusal.number();
             let line = refused.line;
@@ -216,13 +206,14 @@ impl Account {
 
 // What the program prints of a text of sheets.
 pub fn report(heap: Global, text: &str) -> Result<String, Fault> {
-    let mut lines = Vec::new(heap);
-    for (i, line) in text.lines().enumerate() {
-        lines.push(NumberedLine {
+    let lines: Vec<NumberedLine> = text
+        .lines()
+        .enumerate()
+        .map(|(i, line)| NumberedLine {
             number: i + 1,
             says: line_of(line),
-        })?;
-    }
+        })
+        .collect(heap)?;
     let mut account = Account::new(heap);
     account.unite_all(lines.as_slice())?;
     account.write_account(lines.len())?;

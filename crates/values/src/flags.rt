@@ -19,8 +19,7 @@ impl fmt::Display for Flags {
     ghost output = { λ v. Some (hex_8 v.«set») };
 
     fn fmt<W: fmt::Write>(&self, f: &mut fmt::Formatter<W>) -> fmt::Result {
-        let set = self.set;
-        write!(f, "{set:08X}")
+        write!(f, "{:08X}", self.set)
     }
 }
 

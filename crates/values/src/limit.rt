@@ -19,8 +19,7 @@ impl fmt::Display for Limit {
     ghost output = { λ v. Some (decimal v.number) };
 
     fn fmt<W: fmt::Write>(&self, f: &mut fmt::Formatter<W>) -> fmt::Result {
-        let number = self.number;
-        write!(f, "{number}")
+        write!(f, "{}", self.number)
     }
 }
 

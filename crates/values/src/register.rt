@@ -22,9 +22,7 @@ impl fmt::Display for Register {
     ghost output = { λ v. Some (decimal v.stamp ++ 44 ∷ signed_decimal v.offset) };
 
     fn fmt<W: fmt::Write>(&self, f: &mut fmt::Formatter<W>) -> fmt::Result {
-        let stamp = self.stamp;
-        let offset = self.offset;
-        write!(f, "{stamp},{offset}")
+        write!(f, "{},{}", self.stamp, self.offset)
     }
 }
 
