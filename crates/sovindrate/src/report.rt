@@ -1,6 +1,4 @@
 // The sheets of a text, each united and written in key order, and then an account of the whole.
-ghost use Rattle.std.specs.Prelude.{◌≤◌, length};
-
 use super::fault::Fault;
 use super::lines::{Line, line_of};
 use super::sheet::Setting;
