@@ -1,7 +1,7 @@
 -- One setting more, found place by place. Assumes nothing.
 use Rattle.std.proofs.Common.{◌≡◌, ℕ, ◌+◌, ◌<◌, ◌≤◌, Bool, true, false, List, [], ◌∷◌, ◌++◌, Ok, Err, map, length, get_or, take, drop, set, sym, refl, ap, ◌∙◌, subst, add-one, arith}
 use Rattle.std.specs.List.{insert}
-use Rattle.std.proofs.lemmas.List.{at_drop_more, at_drop_all, append_assoc, take_more, take_all, drop_all, drop_more, set_split, get_or-map, map-set, map-append, take-map, drop-map, length-map}
+use Rattle.std.proofs.lemmas.List.{at_drop_more, append_assoc, take_more, drop_more, set_split, get_or-map, map-set, map-append, take-map, drop-map, length-map}
 use Rattle.std.proofs.lemmas.List.Edits.{length-insert}
 use Rattle.std.proofs.lemmas.Bool.{cond-true, cond-false, both_ways}
 use Rattle.kinds.specs.Kinds.{KeyKind, ValueKind}
@@ -42,13 +42,6 @@ module _ (K : KeyKind) (V : ValueKind) (k : List ℕ) (row : List Pair) where
         not_after true e = absurd (both_ways _ (K.before_not_self k) (K.before_onward k (get_or row i blank).key k b e))
         not_after false e = e
 
-  pub at_end : (i : ℕ) → length row ≤ i → Passed i → (v : List ℕ) → united K V k v row ≡ insert row (length row) (pair k v)
-  at_end i h passed v =
-      passed v
-      ∙ ap (λ r. take i row ++ r) (at_drop_all (united K V k v) row i h)
-      ∙ ap (λ r. r ++ (pair k v ∷ [])) (take_all i row h ∙ sym (take_all (length row) row (omega arith)))
-      ∙ ap (λ r. take (length row) row ++ (pair k v ∷ r)) (sym (drop_all (length row) row (omega arith)))
-
 module _ {X Y : Type 0} (kb : X → List ℕ) (vb : Y → List ℕ) where
   abbrev f : Setting X Y → Pair
   f s = pair (kb s.key) (vb s.value)
@@ -75,12 +68,6 @@ module _ {X Y : Type 0} (kb : X → List ℕ) (vb : Y → List ℕ) where
 
     pub found_higher : K.before k (kb s.key) ≡ true → Stands K V k (meaning kb vb xs) (Err i)
     found_higher b = (omega (arith, within), before_here K V k (meaning kb vb xs) i within passed (ap (λ (p : Pair). K.before k p.key) is ∙ b))
-
-  pub found_none : (K : KeyKind) (V : ValueKind) (k : List ℕ) (xs : List (Setting X Y)) (i : ℕ) → length xs ≤ i → Passed K V k (meaning kb vb xs) i → Stands K V k (meaning kb vb xs) (Err (length xs))
-  found_none K V k xs i h passed =
-      let long : length (meaning kb vb xs) ≡ length xs = length-map xs f in
-      let end = at_end K V k (meaning kb vb xs) i (omega (arith, long)) passed in
-      (omega (arith, long), λ v. end v ∙ ap (λ n. insert (meaning kb vb xs) n (pair k v)) long)
 
   -- ---- the edit, where the slice ys of the sheet xs was searched
 
