@@ -2,7 +2,7 @@
 use super::fault::Fault;
 use super::lines::{Line, line_of};
 use super::sheet::Setting;
-use super::spelled::{Misspelt, Spelled};
+use super::spelled::{KEY_KINDS, Misspelt, Spelled, VALUE_KINDS};
 use super::unite::unite;
 use keys::{Bobbin, Id, Path};
 use kinds::{Coded, Key, Refusal, Value};
@@ -144,7 +144,7 @@ impl Account {
             "register" => self.unite_sheet::<K, Register>(lines),
             _ => Err(Fault::Line {
                 number,
-                expected: "a kind of value: limit, flags or register",
+                expected: VALUE_KINDS,
             }),
         }
     }
@@ -163,7 +163,7 @@ impl Account {
             "bobbin" => self.unite_by_value::<Bobbin>(value_kind, number, lines),
             _ => Err(Fault::Line {
                 number,
-                expected: "a kind of key: path, id or bobbin",
+                expected: KEY_KINDS,
             }),
         }
     }

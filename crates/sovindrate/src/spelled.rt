@@ -1,9 +1,14 @@
-// How keys and values are read from a sheet.
+// How keys and values are read from a sheet or a script.
 use keys::{Bobbin, Id, Path};
 use kinds::Refusal;
 use std::fmt::Display;
 use std::str::FromStr;
 use values::{Flags, Limit, Register};
+
+// The names of the kinds.
+pub const KEY_KINDS: &str = "a kind of key: path, id or bobbin";
+
+pub const VALUE_KINDS: &str = "a kind of value: limit, flags or register";
 
 // Why a word is no key or value: its kind refuses it, or it is not written as its kind is.
 #[derive(Clone, Copy)]
@@ -20,7 +25,7 @@ pub trait Spelled: Copy + Display {
 }
 
 // A number that is written with no +.
-fn number<N: FromStr>(word: &str) -> Result<N, Misspelt>
+pub fn number<N: FromStr>(word: &str) -> Result<N, Misspelt>
 where
     N::Err: Drop,
 {
