@@ -1,1 +1,2 @@
 pub mod Uniting
+pub mod Marking

@@ -1,4 +1,9 @@
 // What stands at the places of a store, as its answers tell.
+ghost use Rattle.std.specs.Prelude.{◌≡◌, ℕ, slice_set};
+ghost use Rattle.model.specs.Accounts.{Account, fresh, nth};
+ghost use Rattle.sovindrate.specs.Marks.{Tell, Follow, mark_of};
+
+use kinds::{Key, Value};
 use std::fmt;
 use store::{Answer, Call};
 
@@ -26,27 +31,36 @@ pub struct Marks {
 
 impl Marks {
     // Of a new store.
-    pub fn new() -> Marks {
+    pub fn new() -> Marks
+        ensures { (n e : ℕ) → Tell result.places (fresh n e) }
+    {
         Marks {
             places: [Mark::Empty; 64],
         }
     }
 
-    pub fn at(&self, place: u32) -> Mark {
-        match self.places.get(place as usize) {
-            Some(mark) => *mark,
-            None => Mark::Empty,
+    pub fn at(&self, number: u32) -> Mark
+        ensures { (a : Account) → Tell self.now.places a → result ≡ mark_of (nth a.places number) }
+    {
+        if number < 64 {
+            self.places[number as usize]
+        } else {
+            Mark::Empty
         }
     }
 
-    fn set(&mut self, place: u32, mark: Mark) {
-        if let Some(old) = self.places.get_mut(place as usize) {
-            *old = mark;
+    fn set(&mut self, place: u32, mark: Mark)
+        ensures { self.new.places ≡ slice_set self.old.places place mark }
+    {
+        if place < 64 {
+            self.places[place as usize] = mark;
         }
     }
 
     // What a call left, if it was done.
-    pub fn note<K, V>(&mut self, call: &Call<K, V>, answer: &Answer<V>) {
+    pub fn note<K: Key, V: Value>(&mut self, call: &Call<K, V>, answer: &Answer<V>)
+        ensures { Follow K.kind V.kind K.bytes V.bytes self.old.places self.new.places call.now answer.now }
+    {
         if let Answer::Done = answer {
             match call {
                 Call::Open(place) | Call::OpenFrom(place, _) => self.set(*place, Mark::Draft),
