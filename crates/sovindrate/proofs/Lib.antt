@@ -1,2 +1,3 @@
 pub mod Uniting
 pub mod Marking
+pub mod Keeping

@@ -1,4 +1,6 @@
 // A script over given kinds: its calls, and what is printed of each line.
+ghost use Rattle.std.specs.Prelude.{◌≡◌, take, length};
+
 use super::fault::Fault;
 use super::script::{Statement, call_of};
 use super::spelled::{Misspelt, Spelled};
@@ -87,8 +89,11 @@ impl<K: Key + Spelled, V: Value + Spelled> Script<K, V> {
         Ok(at)
     }
 
-    // The calls that ask for the account: how many settings each place has, and what is free.
-    pub fn ask_account(&mut self) -> Result<(), AllocError> {
+    // Adds the calls that ask for the account: how many settings each place has, and what is free.
+    #[tactic(auto, using(crate::proofs::Keeping::kept_more, crate::proofs::Keeping::kept_all))]
+    pub fn ask_account(&mut self) -> Result<(), AllocError>
+        ensures { take (length self.old.calls.items) self.new.calls.items ≡ self.old.calls.items }
+    {
         for place in 0..64 {
             self.calls.push(Call::Count(place))?;
         }
