@@ -14,3 +14,8 @@ pub mod Found
 pub mod Goes
 pub mod Lookups
 pub mod Counting
+pub mod Turning
+pub mod Rowfuls
+pub mod Made
+pub mod Risen
+pub mod Alike

@@ -1,5 +1,5 @@
 -- What is in hand for a node, as the code keeps it. Assumes nothing.
-use Rattle.std.specs.Prelude.{◌≡◌, ℕ, ◌+◌, ◌^◌, ◌<◌, Bool, true, false, cond, ◌||◌, List, ◌++◌, length, take, replicate, count_by, count_ones, nat_lt, slice_index, slice_set}
+use Rattle.std.specs.Prelude.{◌≡◌, ℕ, ◌+◌, ◌^◌, ◌<◌, ◌≤◌, Bool, true, false, cond, ◌||◌, List, [], ◌++◌, map, length, take, replicate, count_by, count_ones, nat_lt, slice_index, slice_set}
 use Rattle.std.specs.Simd.Lanes.{mask_l}
 use Rattle.tables.specs.declared.cells.NodeCell.{NodeCell}
 use Rattle.tables.specs.declared.table.Table.{Table}
@@ -41,6 +41,14 @@ pub record Bundled (hand : NodeCell) (ds ns : List Bool) (xs ks : List ℕ) : Ty
   pub data_count : count_by (λ b. b) ds ≡ length xs
   pub node_count : count_by (λ b. b) ns ≡ length ks
   pub as_many : length ns ≡ length ds
+
+-- the entries ys are in hand, and no child
+pub record Rowful (h : NodeCell) (ys : List ℕ) : Type 0 where
+  pub bundled : Bundled h (map (λ y. true) ys) (map (λ y. false) ys) ys []
+  pub few : length ys ≤ 16
+
+abbrev pub entries_in : NodeCell → List ℕ
+entries_in h = take (count_ones h.datamap) h.entries
 
 -- ---- the node of what is in hand
 

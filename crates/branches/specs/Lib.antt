@@ -3,3 +3,4 @@ pub mod Branches
 pub mod Hands
 pub mod Handfuls
 pub mod Asked
+pub mod Compared

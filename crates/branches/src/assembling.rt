@@ -1,6 +1,6 @@
 // Taking up the branches of a node digit by digit.
-ghost use Rattle.std.specs.Prelude.{◌≡◌, ◌^◌, ◌<◌};
-ghost use Rattle.branches.specs.Handfuls.{nothing_in_hand, with_branch, MayAssemble, IsAssembled};
+ghost use Rattle.std.specs.Prelude.{◌≡◌, ◌^◌, ◌<◌, [], ◌∷◌, ◌++◌, count_ones};
+ghost use Rattle.branches.specs.Handfuls.{nothing_in_hand, with_branch, Rowful, entries_in, MayAssemble, IsAssembled};
 
 use super::branch::Branch;
 use tables::{Digit, EntryId, NodeCell, NodeTable, make_node};
@@ -31,6 +31,18 @@ pub fn take_up(hand: NodeCell, digit: Digit, branch: Branch) -> NodeCell
         }
     }
     next
+}
+
+// Takes an entry up, after those that are in hand.
+pub fn take_next(hand: NodeCell, id: EntryId) -> NodeCell
+    requires row { Rowful hand (entries_in hand) }
+    requires room { count_ones hand.datamap < 16 }
+    ensures { Rowful result (entries_in hand ++ (id.0 ∷ [])) }
+{
+    let next = Digit {
+        number: hand.datamap.count_ones() as u8,
+    };
+    take_up(hand, next, Branch::Entry(id))
 }
 
 // What is in hand as a branch: nothing, an entry alone, or a new node over it.

@@ -1,23 +1,19 @@
 -- A key is set where no other key is: one new entry, or nothing. Assumes nothing.
 use Rattle.std.proofs.Common.{◌≡◌, ℕ, ◌<◌, ◌≤◌, Bool, true, false, cond, List, [], ◌∷◌, Some, None, Option, sym, refl, ap, ◌∙◌, subst, ap₂, arith}
-use Rattle.std.proofs.lemmas.List.{get_or-set_same}
 use Rattle.kinds.specs.Kinds.{KeyKind, ValueKind}
 use Rattle.model.specs.Maps.{Setting, Map, same_found}
-use Rattle.model.specs.Sharing.{Marked, Shared}
+use Rattle.model.specs.Sharing.{Shared}
 use Rattle.model.proofs.Maps.Found.{found_self}
-use Rattle.tables.specs.declared.cells.EntryCell.{EntryCell}
 use Rattle.tables.specs.declared.cells.EntryId.{EntryId}
-use Rattle.tables.specs.Cells.{entry_cell, blank_entry}
 use Rattle.tables.specs.Heaps.{EntryMade}
-use Rattle.tables.specs.Notes.{EntryNote, noted}
-use Rattle.tables.proofs.Noting.{noted_same}
 use Rattle.plans.specs.Plans.{edited, portion}
 use Rattle.plans.proofs.Sharing.{portion_one}
 use Rattle.branches.specs.declared.branch.Branch.{Branch}
 use Rattle.branches.specs.declared.branch.Branch.TheVariants.{Nothing, Entry}
 use Rattle.branches.specs.States.{Tables, Under, Led}
 use Rattle.branches.specs.Branches.{Built}
-use Rattle.branches.proofs.Growing.{grown_none, grown_to, NodesStay, with_entry, entry_made_grown, entry_made_sits}
+use Rattle.branches.proofs.Growing.{grown_none, NodesStay}
+use Rattle.branches.proofs.Made.{entry_built}
 use Rattle.branches.proofs.Settings.{lone, new_entry, entry_new}
 use Rattle.edits.specs.Sets.{Ready, Done, Alone, FoundAlone}
 use Rattle.edits.proofs.Turns.{reads}
@@ -57,34 +53,11 @@ module _ {X Y : Type 0} (K : KeyKind) (V : ValueKind) (kb : X → List ℕ) (vb 
     -- a new entry
     module _ (key : X) (value : Y) (same_key : kb key ≡ k) (same_value : vb value ≡ v) (id : EntryId) (U : Tables X Y) (stay : NodesStay T U)
         (made : EntryMade id.0 (record { held = Some (key, value); holders = 1; next = 0 }) T.entries T.entry_free T.entry_spare U.entries U.entry_free U.entry_spare) where
-      abbrev note : EntryNote
-      note = record { label = record { what = k; mark = q.call }; setting = s }
-
       built : Built K kb vb q.call level q.prefix (s ∷ []) (new_entry q.call s) T q.notes q.roots q.in_hand (Entry id) U
       built =
-          let here : noted q.notes.entry id.0 note id.0 ≡ note = noted_same q.notes.entry id.0 note in
-          let cell_is = ap (λ (l : List (EntryCell X Y)). entry_cell l id.0) made.is ∙ get_or-set_same T.entries id.0 (record { held = Some (key, value); holders = 1; next = 0 }) blank_entry made.inside in
-          record {
-            notes = with_entry q.notes id.0 note;
-            sits = entry_made_sits T U id.0 _ made stay q.notes note K kb vb q.roots q.in_hand
-                (record { key = key; value = value; holds = refl; setting_is = ap₂ (λ (y z : List ℕ). record { key = y; value = z }) (sym same_key) (sym same_value); label_is = sym same_key })
-                (λ e h z. q.clear.entry e h (ap (λ (y : Marked). y.mark) z) (subst (Led K q.prefix) (sym (ap (λ (y : Marked). y.what) z)) q.led))
-                q.sits;
-            grown = grown_to q.call (λ y. ⊥) (Under q.prefix) (λ y. y ≡ k) (Led K q.prefix) T U q.notes (with_entry q.notes id.0 note)
-                (λ y z. absurd z) (λ y z. subst (Led K q.prefix) (sym z) q.led)
-                (entry_made_grown T U id.0 _ made stay q.notes note q.call k refl);
-            is = (
-              low,
-              record {
-                held = omega (arith, ap (λ (c : EntryCell X Y). c.holders) cell_is);
-                settings = ap (λ (y : EntryNote). y.setting ∷ []) (sym here);
-                nodes = refl;
-                entries = ap (λ (y : EntryNote). y.label ∷ []) (sym here);
-              },
-            );
-            cost = omega (arith, stay.2);
-            entry_cost = made.less;
-          }
+          subst (λ (t : Setting). Built K kb vb q.call level q.prefix (t ∷ []) (new_entry q.call t) T q.notes q.roots q.in_hand (Entry id) U)
+          (ap₂ (λ (y z : List ℕ). record { key = y; value = z }) same_key same_value)
+          (entry_built K kb vb q.call level low q.prefix T q.notes q.roots q.in_hand q.sits q.clear key value (subst (Led K q.prefix) (sym same_key) q.led) id U stay made)
 
       pub some_alone : Built K kb vb q.call level q.prefix (edited K q.source.settings k (Some v)) (portion K q.call level q.prefix (q.source ∷ []) (edited K q.source.settings k (Some v))) T q.notes q.roots q.in_hand (Entry id) U
       some_alone =

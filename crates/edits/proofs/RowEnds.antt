@@ -1,15 +1,13 @@
 -- A row's result in hand as a branch: nothing, one entry or a collision node. Assumes nothing.
-use Rattle.std.proofs.Common.{◌≡◌, ℕ, ◌<◌, ◌≤◌, true, ltb, List, [], ◌∷◌, ◌++◌, map, length, get_or, take, None, sym, refl, ap, ◌∙◌, subst, inl, inr, arith}
+use Rattle.std.proofs.Common.{◌≡◌, ℕ, ◌<◌, ◌≤◌, List, [], ◌∷◌, ◌++◌, map, length, get_or, take, None, sym, refl, ap, ◌∙◌, subst, arith}
 use lib.Count.{ones}
 use Rattle.std.proofs.lemmas.List.{length-map, nil_from_length, append-nil}
-use Rattle.std.proofs.lemmas.Bool.{or_cases, ltb-true}
 use Rattle.kinds.specs.Kinds.{KeyKind}
 use Rattle.model.specs.Maps.{Setting, Map}
 use Rattle.model.specs.Sharing.{Part, Shared, first_same, entry_from, sum}
 use Rattle.tables.specs.declared.cells.NodeCell.{NodeCell}
 use Rattle.tables.specs.declared.cells.EntryId.{EntryId}
 use Rattle.tables.specs.Chains.{occ}
-use Rattle.tables.specs.Cells.{listed}
 use Rattle.tables.specs.Heaps.{Nodes}
 use Rattle.tables.proofs.Occurrences.{occ_nil, occ_head}
 use Rattle.plans.specs.Plans.{portion}
@@ -18,14 +16,12 @@ use Rattle.branches.specs.declared.branch.Branch.{Branch}
 use Rattle.branches.specs.declared.branch.Branch.TheVariants.{Nothing, Entry, Child}
 use Rattle.branches.specs.States.{Tables, Notes, Sits, Clear, Under, Led}
 use Rattle.branches.specs.Branches.{part_of, Built}
-use Rattle.branches.specs.Handfuls.{makes_node, node_cell, Assembling, Assembled}
+use Rattle.branches.specs.Handfuls.{node_cell, Assembling, Assembled}
 use Rattle.branches.proofs.Growing.{grown_to}
 use Rattle.branches.proofs.Picks.{entry_nodes, entries_nodes}
-use Rattle.branches.proofs.Bundles.{bundled_entries, bundled_children}
 use Rattle.branches.proofs.Hands.{hand_held}
 use Rattle.branches.proofs.Rows.{row_node}
-use Rattle.edits.specs.Rowing.{Rowful}
-use Rattle.edits.proofs.TakenUp.{rowful_count, digits_long}
+use Rattle.branches.proofs.Rowfuls.{rowful_count, no_children, its_entries, several_ids}
 use Rattle.edits.proofs.RowHands.{No, Got}
 
 -- tables with the nodes of others
@@ -35,24 +31,6 @@ above T cs f s = record { nodes = cs; free = f; spare = s; entries = T.entries; 
 one_in : (l ids : List ℕ) → take 1 l ≡ ids → length ids ≡ 1 → ids ≡ get_or l 0 0 ∷ []
 one_in [] ids e h = absurd (omega (arith, ap length e))
 one_in (x ∷ l) ids e h = sym e
-
--- what is in hand has no child
-module _ (h : NodeCell) (ids : List ℕ) (R : Rowful h ids) where
-  digits_few : length (map (λ (y : ℕ). true) ids) ≤ 16
-  digits_few = omega (arith, digits_long h ids R, R.few)
-
-  no_children : listed h.nodemap h.children ≡ []
-  no_children = bundled_children h _ _ ids [] R.bundled digits_few
-
-  its_entries : listed h.datamap h.entries ≡ ids
-  its_entries = bundled_entries h _ _ ids [] R.bundled digits_few
-
-  several_ids : makes_node h 0 ≡ true → 1 < length ids
-  several_ids e =
-      elim (or_cases (ltb 0 (ones h.nodemap)) (ltb 1 (ones h.datamap)) e) [
-        | inl a ↦ absurd (omega (arith, ltb-true 0 (ones h.nodemap) a, R.bundled.kids_are))
-        | inr a ↦ omega (arith, ltb-true 1 (ones h.datamap) a, rowful_count h ids R)
-      ]
 
 -- what a new row takes
 module _ (K : KeyKind) (n : ℕ) (p : List ℕ) (ss : List Part) (m : Map) (none : first_same ss m ≡ None) where

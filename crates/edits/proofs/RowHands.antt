@@ -20,7 +20,7 @@ use Rattle.tables.proofs.Rows.{map_same}
 use Rattle.tables.specs.declared.cells.NodeCell.{NodeCell}
 use Rattle.branches.specs.States.{Tables, Notes, Sits, Clear, Under, Led}
 use Rattle.branches.specs.Hands.{Hand}
-use Rattle.branches.specs.Handfuls.{nothing_in_hand}
+use Rattle.branches.specs.Handfuls.{nothing_in_hand, Rowful, entries_in}
 use Rattle.branches.proofs.Growing.{grown_to, clear_grown, sits_same, with_entry, entry_made_grown, entry_made_sits}
 use Rattle.branches.proofs.Settings.{lone, entry_new, entries_listed}
 use Rattle.branches.proofs.Under.{label_key}
@@ -28,8 +28,8 @@ use Rattle.branches.proofs.Bundles.{bundled_none}
 use Rattle.branches.proofs.Hands.{hand_none, hand_more}
 use Rattle.branches.proofs.Rows.{row_more}
 use Rattle.edits.specs.Sets.{value_bytes}
-use Rattle.edits.specs.Rowing.{Rowful, entries_in, beside, EntriesKept, Added}
-use Rattle.edits.proofs.TakenUp.{rowful_in}
+use Rattle.edits.specs.Rowing.{beside, EntriesKept, Added}
+use Rattle.branches.proofs.Rowfuls.{rowful_in}
 use Rattle.edits.proofs.RowParts.{Says}
 
 -- members by how often they stand in a row

@@ -18,13 +18,13 @@ use Rattle.plans.proofs.Crowds.{crowd_deepest}
 use Rattle.branches.specs.declared.branch.Branch.{Branch}
 use Rattle.branches.specs.States.{Tables}
 use Rattle.branches.specs.Branches.{Built, SomeEntry}
-use Rattle.branches.specs.Handfuls.{nothing_in_hand, Assembling, Assembled}
+use Rattle.branches.specs.Handfuls.{nothing_in_hand, Assembling, Assembled, Rowful, entries_in}
 use Rattle.branches.proofs.Settings.{lone, entry_new, edited_same}
 use Rattle.branches.proofs.Picks.{sum_append}
 use Rattle.branches.proofs.Bundles.{bundled_none}
 use Rattle.edits.specs.Sets.{value_bytes, ValueReads, Ready}
-use Rattle.edits.specs.Rowing.{entries_of, Placed, Split, Rowful, entries_in, beside, Keeping, EntriesKept, Adding, Added}
-use Rattle.edits.proofs.TakenUp.{rowful_count, rowful_itself}
+use Rattle.edits.specs.Rowing.{entries_of, Placed, Split, beside, Keeping, EntriesKept, Adding, Added}
+use Rattle.branches.proofs.Rowfuls.{rowful_count, rowful_itself}
 use Rattle.edits.proofs.RowParts.{Says, row_says, settings_count, row_held, some_entries, placed_in, edited_place, edited_long}
 use Rattle.edits.proofs.RowHands.{No, Got, got_none, got_before, got_after, got_new}
 use Rattle.edits.proofs.RowEnds.{above, leaf_entries, got_assembles, got_built}

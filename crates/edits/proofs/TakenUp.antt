@@ -1,53 +1,17 @@
 -- Entries taken up one after another, and held once more each. Assumes nothing.
-use Rattle.std.proofs.Common.{◌≡◌, ℕ, ◌+◌, ◌^◌, ◌<◌, ◌≤◌, Bool, true, false, List, [], ◌∷◌, ◌++◌, map, length, get_or, take, sym, refl, ap, ◌∙◌, subst, append_assoc, arith, length-append}
+use Rattle.std.proofs.Common.{◌≡◌, ℕ, ◌+◌, ◌<◌, ◌≤◌, List, [], ◌∷◌, ◌++◌, length, get_or, take, sym, refl, ap, ◌∙◌, subst, append_assoc, arith, length-append}
 use lib.Count.{ones}
-use Rattle.std.proofs.lemmas.List.{length-map, length_push, map_push, take_more, length-take-le}
+use Rattle.std.proofs.lemmas.List.{take_more, length-take-le}
 use Rattle.kinds.specs.Kinds.{KeyKind}
 use Rattle.tables.specs.declared.cells.NodeCell.{NodeCell}
 use Rattle.tables.specs.declared.cells.EntryCell.{EntryCell}
-use Rattle.tables.specs.declared.cells.EntryId.{EntryId}
 use Rattle.tables.specs.Heaps.{Entries, EntryHeld}
 use Rattle.tables.specs.Cells.{cell, entry_cell}
 use Rattle.tables.proofs.Occurrences.{occ_nil, occ_cons, occ_append}
-use Rattle.branches.specs.declared.branch.Branch.TheVariants.{Entry}
-use Rattle.branches.specs.Handfuls.{with_branch, Bundled}
+use Rattle.branches.specs.Handfuls.{Rowful, entries_in}
+use Rattle.branches.proofs.Rowfuls.{rowful_in}
 use Rattle.branches.proofs.Growing.{grown_then, sits_same, entry_held_grown, entry_held_sits}
-use Rattle.branches.proofs.Bundles.{bundled_more, bundled_fits}
-use Rattle.edits.specs.Rowing.{Rowful, entries_in, beside, Keeping, EntriesKept}
-
--- ---- in hand
-
-module _ (h : NodeCell) (ys : List ℕ) (R : Rowful h ys) where
-  pub rowful_count : (ones h.datamap) ≡ length ys
-  rowful_count = R.bundled.singles_are
-
-  pub digits_long : length (map (λ (y : ℕ). true) ys) ≡ length ys
-  digits_long = length-map ys (λ y. true)
-
-  -- what taking one more up asks for
-  pub rowful_fits : ((ones h.nodemap) < 16) × ((h.datamap < 2 ^ (ones h.datamap)) × (h.nodemap < 2 ^ (ones h.datamap)))
-  rowful_fits =
-      let f = bundled_fits h (map (λ y. true) ys) (map (λ y. false) ys) ys [] R.bundled in
-      let e : length (map (λ (y : ℕ). true) ys) ≡ (ones h.datamap) = digits_long ∙ sym rowful_count in
-      (omega (arith, R.bundled.kids_are), (subst (λ (n : ℕ). h.datamap < 2 ^ n) e f.0, subst (λ (n : ℕ). h.nodemap < 2 ^ n) e f.1))
-
-  pub rowful_in : entries_in h ≡ ys
-  rowful_in = R.bundled.entries_are
-
-  pub rowful_itself : Rowful h (entries_in h)
-  rowful_itself = subst (Rowful h) (sym rowful_in) R
-
-  pub rowful_more : (e : EntryId) → (ones h.datamap) < 16 → (next : NodeCell) → next ≡ with_branch h (ones h.datamap) (Entry e) → Rowful next (ys ++ (e.0 ∷ []))
-  rowful_more e l next made =
-      let B : Bundled (with_branch h (length (map (λ (y : ℕ). true) ys)) (Entry e)) (map (λ y. true) ys ++ (true ∷ [])) (map (λ y. false) ys ++ (false ∷ [])) (ys ++ (e.0 ∷ [])) [] =
-      bundled_more h (map (λ y. true) ys) (map (λ y. false) ys) ys [] R.bundled (Entry e) l rowful_fits.0 in
-      subst (λ (a : NodeCell). Rowful a (ys ++ (e.0 ∷ []))) (sym made) (record {
-        bundled =
-            subst (λ (n : ℕ). Bundled (with_branch h n (Entry e)) (map (λ y. true) (ys ++ (e.0 ∷ []))) (map (λ y. false) (ys ++ (e.0 ∷ []))) (ys ++ (e.0 ∷ [])) []) (digits_long ∙ sym rowful_count)
-            (subst (λ (a : List Bool). Bundled (with_branch h (length (map (λ (y : ℕ). true) ys)) (Entry e)) a (map (λ y. false) (ys ++ (e.0 ∷ []))) (ys ++ (e.0 ∷ [])) []) (sym (map_push (λ y. true) ys e.0))
-            (subst (λ (a : List Bool). Bundled (with_branch h (length (map (λ (y : ℕ). true) ys)) (Entry e)) (map (λ y. true) ys ++ (true ∷ [])) a (ys ++ (e.0 ∷ [])) []) (sym (map_push (λ y. false) ys e.0)) B));
-        few = omega (arith, length_push ys e.0, rowful_count);
-      })
+use Rattle.edits.specs.Rowing.{beside, Keeping, EntriesKept}
 
 -- ---- held
 

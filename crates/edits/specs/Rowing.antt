@@ -12,7 +12,7 @@ use Rattle.tables.specs.Heaps.{Entries, EntryMade}
 use Rattle.branches.specs.declared.branch.Branch.{Branch}
 use Rattle.branches.specs.declared.branch.Branch.TheVariants.{Nothing, Entry, Child}
 use Rattle.branches.specs.States.{Tables, Notes, Sits, Grown}
-use Rattle.branches.specs.Handfuls.{Bundled}
+use Rattle.branches.specs.Handfuls.{Rowful, entries_in}
 use Rattle.plans.specs.Plans.{capped}
 use Rattle.edits.specs.declared.estimate.Estimate.{Estimate}
 
@@ -63,14 +63,6 @@ pub record Split {X Y : Type 0} (K : KeyKind) (kb : X → List ℕ) (vb : Y → 
   pub placed : Rises K (row_settings kb vb es xs) → Placed K (row_settings kb vb es xs) k at (is_some own)
 
 -- ---- entries taken up
-
--- the entries ys are in hand, and no child
-pub record Rowful (h : NodeCell) (ys : List ℕ) : Type 0 where
-  pub bundled : Bundled h (map (λ y. true) ys) (map (λ y. false) ys) ys []
-  pub few : length ys ≤ 16
-
-abbrev pub entries_in : NodeCell → List ℕ
-entries_in h = take (count_ones h.datamap) h.entries
 
 -- tables with the entries of others
 abbrev pub beside : {X Y : Type 0} → Tables X Y → List (EntryCell X Y) → ℕ → ℕ → Tables X Y

@@ -6,13 +6,14 @@ ghost use Rattle.tables.specs.Cells.{singles};
 ghost use Rattle.branches.specs.Branches.{SomeEntry};
 ghost use Rattle.branches.specs.States.{tables_of};
 ghost use Rattle.edits.specs.Sets.{value_bytes, Seen, Estimated, Ready, Done};
-ghost use Rattle.edits.specs.Rowing.{NodeIn, entries_of, Found, Split, entries_in, Rowful, MayKeep, AreKept, MayAdd, IsAdded, value_held};
+ghost use Rattle.branches.specs.Handfuls.{Rowful, entries_in};
+ghost use Rattle.edits.specs.Rowing.{NodeIn, entries_of, Found, Split, MayKeep, AreKept, MayAdd, IsAdded, value_held};
 
 use super::estimate::Estimate;
-use branches::{Branch, assemble, empty_handed, setting_of, take_up};
+use branches::{Branch, assemble, empty_handed, setting_of, take_next};
 use kinds::{Key, Value};
 use std::cmp::Ordering;
-use tables::{Digit, EntryId, EntryTable, NodeCell, NodeTable, Tables, hold_entry, make_entry};
+use tables::{EntryId, EntryTable, NodeCell, NodeTable, Tables, hold_entry, make_entry};
 
 // A branch at the deepest level as a node with the same entries.
 fn as_node(nodes: &NodeTable, branch: Branch) -> NodeCell
@@ -64,18 +65,6 @@ fn split_row<'a, K: Key, V: Value>(
         Ok(at) => (&row[..at], Some(EntryId(row[at])), &row[at + 1..]),
         Err(at) => (&row[..at], None, &row[at..]),
     }
-}
-
-// Takes an entry up, after those that are in hand.
-fn take_next(hand: NodeCell, id: EntryId) -> NodeCell
-    requires row { Rowful hand (entries_in hand) }
-    requires room { count_ones hand.datamap < 16 }
-    ensures { Rowful result (entries_in hand ++ (id.0 ∷ [])) }
-{
-    let next = Digit {
-        number: hand.datamap.count_ones() as u8,
-    };
-    take_up(hand, next, Branch::Entry(id))
 }
 
 // Holds the entries of a row once more each, and takes them up.

@@ -16,5 +16,5 @@ pub use bridges::tables_stand;
 pub use cells::{EntryCell, EntryId, NodeCell, NodeId};
 pub use entries::{EntryTable, entry_cell_at, hold_entry, make_entry, release_entry};
 pub use nodes::{NodeTable, hold_node, make_node};
-pub use slots::{Digit, child_at, child_by_rank, entry_at, entry_by_rank};
+pub use slots::{Digit, child_at, child_by_rank, entry_at, entry_by_rank, has_digit};
 pub use starting::start;

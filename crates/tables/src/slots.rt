@@ -12,7 +12,7 @@ pub struct Digit {
 }
 
 // Whether the bit of a digit is set.
-fn has_digit(map: u16, digit: Digit) -> bool
+pub fn has_digit(map: u16, digit: Digit) -> bool
     ensures { result ≡ bit map digit.number }
 {
     (map >> digit.number) & 1 == 1
