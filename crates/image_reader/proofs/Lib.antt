@@ -1,0 +1,9 @@
+pub mod Digits
+pub mod Prefixes
+pub mod Going
+pub mod Commands
+pub mod Bits
+pub mod Entering
+pub mod Crowds
+pub mod Below
+pub mod Wholes

@@ -1,0 +1,20 @@
+-- The verdict on a whole image. Assumes nothing.
+use Rattle.std.specs.Prelude.{◌≡◌, ℕ, List, Ok, Err, Result}
+use Rattle.kinds.specs.Kinds.{KeyKind, ValueKind}
+use Rattle.kinds.specs.declared.refusal.Refusal.{Refusal}
+use Rattle.kinds.specs.Refusals.{shown, refused_at}
+use Rattle.model.specs.Maps.{Map}
+use Rattle.model.specs.Reading.{Read, command, body_in, ended, read_root, judge, accepted, refused}
+
+-- a whole image, from its header on
+abbrev pub headed : KeyKind → ValueKind → ℕ → List ℕ → Read
+headed K V = command 0x56 3 (body_in K V)
+
+-- what follows the header: the root, if there is one, and the end
+abbrev pub rooted : KeyKind → ValueKind → ℕ → List ℕ → Read
+rooted K V at bs = ended (read_root K V at bs)
+
+-- an image is accepted where it is judged the image of some map, and else refused as it is judged
+abbrev pub JudgedAs : KeyKind → ValueKind → List ℕ → Result Unit Refusal → Type 0
+JudgedAs K V bs (Ok u) = (m : Map) × (judge K V bs ≡ accepted m)
+JudgedAs K V bs (Err x) = (n : ℕ) × ((o : ℕ) × ((judge K V bs ≡ refused n o) × (shown x ≡ refused_at n o)))

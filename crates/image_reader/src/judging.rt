@@ -1,0 +1,63 @@
+// A whole image, judged.
+ghost use Rattle.std.specs.Prelude.{◌≡◌, [], ◌∷◌, length};
+ghost use Rattle.model.specs.Reading.{got, end_in};
+ghost use Rattle.image_reader.specs.Judging.{headed, rooted, JudgedAs};
+ghost use Rattle.image_reader.specs.Readers.{Within, Passed};
+
+use super::due::{Due, END};
+use super::operands::read_count;
+use super::prefix::Prefix;
+use super::reader::{Command, Reader};
+use kinds::{Key, Refusal, Value};
+
+// The operands of a header of this edition and of these kinds.
+fn own_header<K: Key, V: Value>() -> [u8; 3]
+    ensures { result ≡ 4 ∷ (K.kind.code ∷ (V.kind.code ∷ [])) }
+{
+    [4, K::code_byte(), V::code_byte()]
+}
+
+impl Reader<'_> {
+    // The header, which has to name this edition and these kinds.
+    fn header<K: Key, V: Value>(&mut self) -> Result<(), Refusal>
+        requires within { Within self.old }
+        requires start { self.old.at ≡ 0 }
+        ensures { Passed (headed K.kind V.kind) (rooted K.kind V.kind) self.old self.new result }
+    {
+        let command = self.command(Due::Header)?;
+        if !byte_rows::same_rows(command.operands, &own_header::<K, V>()) {
+            return Err(Refusal::Foreign { at: command.at });
+        }
+        Ok(())
+    }
+
+    // The end, which has to have the number of entries, and nothing after it.
+    fn end(&self, command: Command, count: usize) -> Result<(), Refusal>
+        requires within { Within self.now }
+        requires four { length command.operands.now ≡ 4 }
+        ensures { Passed (end_in count command.entry.at command.entry.operands.now) (got []) self.now self.now result }
+    {
+        if read_count(command.operands) as usize != count {
+            return Err(command.broken());
+        }
+        if !self.is_at_end() {
+            return Err(Refusal::Broken { at: self.offset() });
+        }
+        Ok(())
+    }
+}
+
+// Judges a whole image: accepted, or the refusal with the offset of the first faulty command.
+pub fn judge<K: Key, V: Value>(image: &[u8]) -> Result<(), Refusal>
+    ensures { JudgedAs K.kind V.kind image.now result }
+{
+    let mut reader = Reader::new(image);
+    reader.header::<K, V>()?;
+    let command = reader.command(Due::RootOrEnd)?;
+    if command.byte == END {
+        return reader.end(command, 0);
+    }
+    let count = reader.node::<K, V>(command, Prefix::root())?;
+    let end = reader.command(Due::End)?;
+    reader.end(end, count)
+}
