@@ -1,0 +1,10 @@
+pub mod Rows
+pub mod Operands
+pub mod Layouts
+pub mod Leaves
+pub mod Tallying
+pub mod Tallies
+pub mod Wholes
+pub mod Rowing
+pub mod Building
+pub mod Roots
