@@ -23,7 +23,7 @@ module _ {X Y : Type 0} (K : KeyKind) (V : ValueKind) (kb : X → List ℕ) (vb 
     pub lives : live a i ≡ Some version
     pub answers : (f : Version → Outcome) → on_live K V a i f ≡ f version
 
-  version_at : (a : Account) (rep : Represents K V kb vb S a) (b : Branch) → IsLive (get_or S.places i Empty) b → VersionAt a rep b
+  pub version_at : (a : Account) (rep : Represents K V kb vb S a) (b : Branch) → IsLive (get_or S.places i Empty) b → VersionAt a rep b
   version_at a rep b alive =
       elim alive [
         | inl e ↦ let w = at_draft K V kb vb S a rep i b e in

@@ -31,7 +31,7 @@ value_made V vb law (Some y) = law y
 value_made V vb law None = tt
 
 -- taken is no refusal
-took_accepts : (n e : ℕ) (x : Refused) → took n e ≡ refused x → ⊥
+pub took_accepts : (n e : ℕ) (x : Refused) → took n e ≡ refused x → ⊥
 took_accepts n e x p = let z : ◌≡◌ {A = ℕ} 0 1 = cc in omega arith
 
 as_often : (x y z r o o' b n : ℕ) → x ≡ r + o → y ≡ b + z → z ≡ r + o' → o' + b ≡ o + n → n ≡ 0 → x ≡ y

@@ -10,6 +10,9 @@ pub mod Ended
 pub mod Fresh
 pub mod Sets
 pub mod Edited
+pub mod Asked
+pub mod Compares
+pub mod Saves
+pub mod Loads
 pub mod Runs
 pub mod Promises
-pub mod Asked

@@ -1,5 +1,5 @@
 -- What holds after every list of calls, at one account; and a whole run. Assumes nothing.
-use Rattle.std.proofs.Common.{◌≡◌, ℕ, ◌≤◌, min, List, length}
+use Rattle.std.proofs.Common.{◌≡◌, ℕ, ◌≤◌, List, length}
 use Rattle.kinds.specs.Kinds.{KeyKind, ValueKind}
 use Rattle.model.specs.Accounts.{Account, fresh}
 use Rattle.model.specs.Calls.{run}
@@ -29,16 +29,16 @@ promised K V a r = record {
 module _ {X Y : Type 0} (K : KeyKind) (V : ValueKind) (kb : X → List ℕ) (vb : Y → List ℕ) (cs ds : List NodeCell) (es fs : List (EntryCell X Y)) (F : tables.Formatted cs ds es fs) (S : State X Y) (e : S ≡ new_state ds fs) where
   -- a run that made its calls
   pub completed :
-      (S' : State X Y) (calls : List (Call X Y)) (old new : List (Answer Y)) (n : ℕ) → length cs ≤ 65535 → length es ≤ 65535
-      → n ≡ min (length calls) (length old) → MadeCalls K V kb vb S S' calls old new n → Completed K V kb vb (length cs) (length es) calls old new n
-  completed S' calls old new n few_nodes few_entries as_many M =
-      let all = M.account (fresh (length cs) (length es)) (starts_fresh K V kb vb cs ds es fs S F e) in
+      (S' : State X Y) (calls : List (Call X Y)) (old new : List (Answer Y)) (out out' : List ℕ) (n : ℕ) → length cs ≤ 65535 → length es ≤ 65535
+      → MadeCalls K V kb vb S S' calls old new out out' n → Completed K V kb vb (length cs) (length es) calls old new out out' n
+  completed S' calls old new out out' n few_nodes few_entries M =
+      let a : Account = fresh (length cs) (length es) in
+      let s = starts_fresh K V kb vb cs ds es fs S F e in
       record {
         few_nodes = few_nodes;
         few_entries = few_entries;
-        as_many = as_many;
-        answered = all.0;
-        long = M.long;
-        kept = M.kept;
-        promised = promised K V (run K V (fresh (length cs) (length es)) (first_calls K V kb vb n calls)) all.1.reached;
+        as_many = M.as_many a s;
+        answered = M.answered a s;
+        wrote = M.wrote;
+        promised = promised K V (run K V a (first_calls K V kb vb n calls)) (M.account a s).reached;
       }

@@ -42,7 +42,7 @@ pub few_owners : (l n : ℕ) → l ≤ n → n ≡ 64 → l + 16 * 8 + 16 ≤ 65
 few_owners l n h e = omega arith
 
 -- a root is no entry
-no_entry : {X Y : Type 0} (T : Tables X Y) (N : Notes) (r : Branch) (a : Part) → Is T N r 8 [] a → entry_of r ++ [] ≡ []
+pub no_entry : {X Y : Type 0} (T : Tables X Y) (N : Notes) (r : Branch) (a : Part) → Is T N r 8 [] a → entry_of r ++ [] ≡ []
 no_entry T N Nothing a h = refl
 no_entry T N (Entry e) a h = absurd (omega (arith, h.0))
 no_entry T N (Child j) a h = refl

@@ -2,6 +2,7 @@ pub mod Stores
 pub mod Spots
 pub mod Views
 pub mod Answers
+pub mod Buffers
 pub mod Fresh
 pub mod Starts
 pub mod Drafts

@@ -1,5 +1,5 @@
 -- What a list of calls on a new store promises. Assumes nothing.
-use Rattle.std.specs.Prelude.{◌≡◌, ℕ, ◌+◌, ◌<◌, ◌≤◌, min, ◌⊎◌, List, map, length, take, drop, Some, Ok, Err, Result}
+use Rattle.std.specs.Prelude.{◌≡◌, ℕ, ◌+◌, ◌<◌, ◌≤◌, ◌⊎◌, List, map, length, take, drop, Some, Ok, Err, Result}
 use Rattle.kinds.specs.Kinds.{KeyKind, ValueKind}
 use Rattle.kinds.specs.declared.refusal.Refusal.{Refusal}
 use Rattle.kinds.specs.Refusals.{refused, shown}
@@ -15,7 +15,8 @@ use Rattle.tables.specs.declared.cells.EntryCell.{EntryCell}
 use Rattle.store.specs.declared.calls.Call.{Call}
 use Rattle.store.specs.declared.calls.Answer.{Answer}
 use Rattle.store.specs.Stores.{State, Represents}
-use Rattle.store.specs.Answers.{call_shown, answer_shown}
+use Rattle.store.specs.Answers.{call_shown}
+use Rattle.store.specs.Buffers.{Keeps, answers_shown, all_written, made}
 
 -- what holds of an account that a list of calls leads to
 pub record Promised (K : KeyKind) (V : ValueKind) (a : Account) : Type 0 where
@@ -49,37 +50,43 @@ module _ {X Y : Type 0} (K : KeyKind) (V : ValueKind) (kb : X → List ℕ) (vb 
   abbrev pub first_calls : ℕ → List (Call X Y) → List model.Call
   first_calls n cs = map (call_shown kb vb) (take n cs)
 
-  -- a store that was S made the first n of the calls and is now S': whichever account it stood for, each answer is the account's, and it stands for the account after them; the list of answers was old and is now new
-  pub record MadeCalls (S S' : State X Y) (calls : List (Call X Y)) (old new : List (Answer Y)) (n : ℕ) : Type 0 where
-    pub account : (a : Account) → Represents K V kb vb S a →
-        (map (answer_shown vb) (take n new) ≡ answers K V a (first_calls n calls)) × Represents K V kb vb S' (run K V a (first_calls n calls))
+  -- the first n answers of a list and the bytes that they tell of are written; the rest of the list, and of the buffer, is as it was
+  pub record Wrote (n : ℕ) (old new : List (Answer Y)) (out out' : List ℕ) : Type 0 where
     pub long : length new ≡ length old
     pub kept : drop n new ≡ drop n old
+    pub buffer : Keeps (all_written (take n new)) out out'
 
-  -- a new store over tables of so many cells made the first n of the calls, as many as have room in the list of answers, which was old and is now new
-  pub record Completed (node_cells entry_cells : ℕ) (calls : List (Call X Y)) (old new : List (Answer Y)) (n : ℕ) : Type 0 where
+  -- a store that was S made the first n of the calls, as many as had room, and is now S': whichever account it stood for, each answer is the account's, and it stands for the account after them; the list of answers was old and is now new, the buffer was out and is now out'
+  pub record MadeCalls (S S' : State X Y) (calls : List (Call X Y)) (old new : List (Answer Y)) (out out' : List ℕ) (n : ℕ) : Type 0 where
+    pub as_many : (a : Account) → Represents K V kb vb S a → n ≡ made K V kb vb a calls (length old) (length out)
+    pub answered : (a : Account) → Represents K V kb vb S a → answers_shown vb out' (take n new) ≡ answers K V a (first_calls n calls)
+    pub account : (a : Account) → Represents K V kb vb S a → Represents K V kb vb S' (run K V a (first_calls n calls))
+    pub wrote : Wrote n old new out out'
+
+  -- a new store over tables of so many cells made the first n of the calls, as many as had room in the list of answers, which was old and is now new, and in the buffer, which was out and is now out'
+  pub record Completed (node_cells entry_cells : ℕ) (calls : List (Call X Y)) (old new : List (Answer Y)) (out out' : List ℕ) (n : ℕ) : Type 0 where
     pub few_nodes : node_cells ≤ 65535
     pub few_entries : entry_cells ≤ 65535
-    pub as_many : n ≡ min (length calls) (length old)
-    -- every answer is the account's
-    pub answered : map (answer_shown vb) (take n new) ≡ answers K V (fresh node_cells entry_cells) (first_calls n calls)
-    -- the rest of the list is as it was
-    pub long : length new ≡ length old
-    pub kept : drop n new ≡ drop n old
+    pub as_many : n ≡ made K V kb vb (fresh node_cells entry_cells) calls (length old) (length out)
+    -- every answer is the account's, and so is every image, one after another from the buffer's first byte on
+    pub answered : answers_shown vb out' (take n new) ≡ answers K V (fresh node_cells entry_cells) (first_calls n calls)
+    -- the rest of the list, and of the buffer, is as it was
+    pub wrote : Wrote n old new out out'
     -- what holds after every list of calls
     pub promised : Promised K V (run K V (fresh node_cells entry_cells) (first_calls n calls))
 
--- a table is longer than 65,535 cells: refused with 2, and the tables and the list of answers are as they were
-pub record TurnedAway {X Y : Type 0} (cs ds : List NodeCell) (es fs : List (EntryCell X Y)) (old new : List (Answer Y)) (x : Refusal) : Type 0 where
+-- a table is longer than 65,535 cells: refused with 2, and the tables, the list of answers and the buffer are as they were
+pub record TurnedAway {X Y : Type 0} (cs ds : List NodeCell) (es fs : List (EntryCell X Y)) (old new : List (Answer Y)) (out out' : List ℕ) (x : Refusal) : Type 0 where
   pub number : shown x ≡ refused 2
   pub too_long : (65535 < length cs) ⊎ (65535 < length es)
   pub nodes : ds ≡ cs
   pub entries : fs ≡ es
   pub answers : new ≡ old
+  pub buffer : out' ≡ out
 
 -- of tables that were cs and es and are now ds and fs
 abbrev pub Ran :
     {X Y : Type 0} → KeyKind → ValueKind → (X → List ℕ) → (Y → List ℕ) → List NodeCell → List NodeCell → List (EntryCell X Y) → List (EntryCell X Y) →
-    List (Call X Y) → List (Answer Y) → List (Answer Y) → Result ℕ Refusal → Type 0
-Ran K V kb vb cs ds es fs calls old new (Ok n) = Completed K V kb vb (length cs) (length es) calls old new n
-Ran K V kb vb cs ds es fs calls old new (Err x) = TurnedAway cs ds es fs old new x
+    List (Call X Y) → List (Answer Y) → List (Answer Y) → List ℕ → List ℕ → Result ℕ Refusal → Type 0
+Ran K V kb vb cs ds es fs calls old new out out' (Ok n) = Completed K V kb vb (length cs) (length es) calls old new out out' n
+Ran K V kb vb cs ds es fs calls old new out out' (Err x) = TurnedAway cs ds es fs old new out out' x

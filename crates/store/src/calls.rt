@@ -1,9 +1,12 @@
 // The calls of a store by the numbers of its places, and what they answer.
+ghost use Rattle.std.specs.Prelude.{◌≡◌};
+ghost use Rattle.store.specs.Buffers.{room_of, written};
+
 use kinds::Refusal;
 
 // A call with its arguments.
 #[derive(Clone, Copy)]
-pub enum Call<K, V> {
+pub enum Call<'a, K, V> {
     Open(u32),
     OpenFrom(u32, u32),
     Put(u32, K, V),
@@ -11,8 +14,13 @@ pub enum Call<K, V> {
     Publish(u32),
     Abandon(u32),
     Retire(u32),
+    // of an image
+    Load(u32, &'a [u8]),
     LookUp(u32, K),
     Count(u32),
+    Compare(u32, u32),
+    // into a buffer of so many bytes
+    Save(u32, usize),
     Free,
 }
 
@@ -24,7 +32,34 @@ pub enum Answer<V> {
     Took(usize, usize),
     Found(Option<V>),
     Counted(usize),
+    Equal(bool),
+    // so many bytes, which stand in the buffer
+    Saved(usize),
     // so many nodes and entries are free
     Spare(usize, usize),
     Refused(Refusal),
+}
+
+impl<'a, K, V> Call<'a, K, V> {
+    // How many bytes of a buffer it is lent.
+    pub fn room(&self) -> usize
+        ensures { result ≡ room_of self.now }
+    {
+        match self {
+            Call::Save(_, room) => *room,
+            _ => 0,
+        }
+    }
+}
+
+impl<V> Answer<V> {
+    // How many bytes stand in the buffer for it.
+    pub fn written(&self) -> usize
+        ensures { result ≡ written self.now }
+    {
+        match self {
+            Answer::Saved(length) => *length,
+            _ => 0,
+        }
+    }
 }

@@ -6,6 +6,7 @@ mod calls;
 mod draft;
 mod editing;
 mod ending;
+mod loading;
 mod opening;
 mod roots;
 mod running;
