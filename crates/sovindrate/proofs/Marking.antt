@@ -1,13 +1,18 @@
 -- Marks beside the places of an account. Assumes nothing.
 use Rattle.std.proofs.Common.{◌≡◌, ℕ, zero, suc, Bool, true, false, List, [], ◌∷◌, map, length, get_or, set, None, sym, refl, subst, ◌⊎◌, inl, inr, ◌≤◌, ap, ◌∙◌, arith, cond}
 use Rattle.std.proofs.lemmas.List.{map-set, length-map}
-use Rattle.std.specs.Prelude.{nat_lt}
+use Rattle.std.specs.Prelude.{nat_lt, Some}
+use denote.Bor.{Bor}
 use Rattle.kinds.specs.Kinds.{KeyKind, ValueKind}
+use Rattle.kinds.specs.Refusals as refusals
 use Rattle.model.specs.Maps.{Map, put, remove}
 use Rattle.model.specs.Tries.{crowded}
+use Rattle.model.specs.Images.{image}
+use Rattle.model.specs.Reading.{Verdict, judge, accepted}
+use Rattle.model.specs.Reading as reading
 use Rattle.model.specs.Sharing.{Shared}
 use Rattle.model.specs.Accounts.{Version, Place, Account, nth, empty, draft, published}
-use Rattle.model.specs.Calls.{Outcome, Answer, after, done, took, found, counted, equal, saved, spare, refused, Open, OpenFrom, Put, Remove, Publish, Abandon, Retire, LookUp, Count, named, version, outcome, reply, leave, refuse, result, on_place, on_empty, on_draft, on_published, on_live, on_uncrowded}
+use Rattle.model.specs.Calls.{Outcome, Answer, after, done, took, found, counted, equal, saved, spare, refused, Open, OpenFrom, Put, Remove, Publish, Abandon, Retire, Load, LookUp, Count, Compare, Save, now, named, version, outcome, reply, leave, refuse, result, on_place, on_empty, on_draft, on_published, on_live, on_uncrowded}
 use Rattle.store.specs.declared.calls.Call.{Call}
 use Rattle.store.specs.declared.calls.Answer as store
 use Rattle.store.specs.declared.calls.Call.TheVariants as calls
@@ -61,6 +66,17 @@ on_done (equal b) x y = y
 on_done (saved bs) x y = y
 on_done (spare n e) x y = y
 on_done (refused r) x y = y
+
+-- what a call leaves if it took cells, and else
+abbrev pub on_took : Answer → List Mark → List Mark → List Mark
+on_took done x y = y
+on_took (took n e) x y = x
+on_took (found o) x y = y
+on_took (counted n) x y = y
+on_took (equal b) x y = y
+on_took (saved bs) x y = y
+on_took (spare n e) x y = y
+on_took (refused r) x y = y
 
 module _ (K : KeyKind) (V : ValueKind) (a : Account) where
   abbrev marks : List Mark
@@ -128,6 +144,22 @@ module _ (K : KeyKind) (V : ValueKind) (a : Account) where
       by_place (draft v) = refl
       by_place (published v) = refl
 
+  still_read : (i : ℕ) (f : Version → Outcome) → ((v : Version) → Still (f v)) → Still (on_live K V a i f)
+  still_read i f h = by_place (nth a.places i)
+    where
+      by_place : (p : Place) → Still (elim p [ empty ↦ refuse K V a 4 | draft v ↦ f v | published v ↦ f v ])
+      by_place empty = refl
+      by_place (draft v) = h v
+      by_place (published v) = h v
+
+  still_length : (v : Version) (room : ℕ) →
+      Still (cond (nat_lt room (length (image K V v.settings))) (refuse K V a 12) (reply K V a (saved (image K V v.settings))))
+  still_length v room = by_case (nat_lt room (length (image K V v.settings)))
+    where
+      by_case : (b : Bool) → Still (cond b (refuse K V a 12) (reply K V a (saved (image K V v.settings))))
+      by_case true = refl
+      by_case false = refl
+
   -- an edit leaves a draft where there was one
   still_draft : (i : ℕ) (f : Version → Outcome) → ((v : Version) → mark_of (nth a.places i) ≡ Draft → Still (f v)) → Still (on_draft K V a i f)
   still_draft i f h = by_place (nth a.places i) refl
@@ -182,24 +214,64 @@ module _ (K : KeyKind) (V : ValueKind) (a : Account) where
   pub removed : (i : ℕ) (k : List ℕ) → Still (outcome K V a (Remove i k))
   removed i k = still_place i _ (still_draft i _ (λ d e. let m : Map = remove K d.settings k in still_result i (d ∷ []) m (edited m) e))
 
+  -- a load that took leaves a published place, and else each mark as it was
+  abbrev pub Loads : ℕ → Outcome → Type 0
+  Loads i o = left o ≡ on_took o.answer (set marks i Published) marks
+
+  loads_place : (i : ℕ) (o : Outcome) → Loads i o → Loads i (on_place K V a i o)
+  loads_place i o h = by_case (nat_lt 63 i)
+    where
+      by_case : (b : Bool) → Loads i (cond b (refuse K V a 3) o)
+      by_case true = refl
+      by_case false = h
+
+  loads_empty : (i : ℕ) (o : Outcome) → Loads i o → Loads i (on_empty K V a i o)
+  loads_empty i o h = by_place (nth a.places i)
+    where
+      by_place : (p : Place) → Loads i (elim p [ empty ↦ o | draft v ↦ refuse K V a 5 | published v ↦ refuse K V a 5 ])
+      by_place empty = h
+      by_place (draft v) = refl
+      by_place (published v) = refl
+
+  loads_room : (b : Bool) (i n e : ℕ) (v : Version) → Loads i (cond b (leave K V a (took n e) i (published v)) (refuse K V a 11))
+  loads_room true i n e v = map-set mark_of a.places i (published v)
+  loads_room false i n e v = refl
+
+  pub loaded : (i : ℕ) (bs : List ℕ) → Loads i (outcome K V a (Load i bs))
+  loaded i bs = loads_place i _ (loads_empty i _ (by_verdict (judge K V bs)))
+    where
+      by_verdict : (j : Verdict) →
+          Loads i (elim j [
+            | accepted m ↦ result K V a i [] m (λ s. published (version K V a m (Some (now K V a ∷ [])) s))
+            | reading.refused n o ↦ reply K V a (refused (refusals.refused_at n o))
+          ])
+      by_verdict (accepted m) = loads_room _ i _ _ _
+      by_verdict (reading.refused n o) = refl
+
   pub looked_up : (i : ℕ) (k : List ℕ) → Still (outcome K V a (LookUp i k))
   looked_up i k = still_place i _ (still_live i _)
 
   pub counted_at : (i : ℕ) → Still (outcome K V a (Count i))
   counted_at i = still_place i _ (still_live i _)
 
--- ---- the calls as the store has them
+  pub compared : (i j : ℕ) → Still (outcome K V a (Compare i j))
+  compared i j = still_place i _ (still_place j _ (still_read i _ (λ v. still_live j _)))
 
-module _ {X Y : Type 0} (K : KeyKind) (V : ValueKind) (kb : X → List ℕ) (vb : Y → List ℕ) (a : Account) where
+  pub saved_at : (i room : ℕ) → Still (outcome K V a (Save i room))
+  saved_at i room = still_place i _ (still_read i _ (λ v. still_length v room))
+
+-- ---- the calls as the store has them, an image standing in the buffer bs
+
+module _ {X Y : Type 0} (K : KeyKind) (V : ValueKind) (kb : X → List ℕ) (vb : Y → List ℕ) (a : Account) (bs : List ℕ) where
   abbrev o : Call X Y → Outcome
   o c = outcome K V a (call_shown kb vb c)
 
   -- a call that is done
-  module _ (old new : List Mark) (c : Call X Y) (r : store.Answer Y) (i : ℕ) (is : r ≡ Done) (told : Tell old a) (same : answer_shown vb r ≡ (o c).answer) where
+  module _ (old new : List Mark) (c : Call X Y) (r : store.Answer Y) (i : ℕ) (is : r ≡ Done) (told : Tell old a) (same : answer_shown vb bs r ≡ (o c).answer) where
     moved : (m : Mark) → Moves K V a i m (o c) → new ≡ set old i m → Tell new (after K V a (call_shown kb vb c))
     moved m h e =
         e ∙ ap (λ (ms : List Mark). set ms i m) told
-        ∙ ap (λ x. on_done x (set (map mark_of a.places) i m) (map mark_of a.places)) (sym (ap (answer_shown vb) is) ∙ same) ∙ sym h
+        ∙ ap (λ x. on_done x (set (map mark_of a.places) i m) (map mark_of a.places)) (sym (ap (answer_shown vb bs) is) ∙ same) ∙ sym h
 
     pub follow_open : (c ≡ calls.Open i) ⊎ ((j : ℕ) × (c ≡ calls.OpenFrom i j)) → new ≡ set old i Draft → Tell new (after K V a (call_shown kb vb c))
     follow_open (inl e) = moved Draft (subst (λ c. Moves K V a i Draft (o c)) (sym e) (opened K V a i))
@@ -212,27 +284,66 @@ module _ {X Y : Type 0} (K : KeyKind) (V : ValueKind) (kb : X → List ℕ) (vb 
     follow_end (inl e) = moved Empty (subst (λ c. Moves K V a i Empty (o c)) (sym e) (abandoned K V a i))
     follow_end (inr e) = moved Empty (subst (λ c. Moves K V a i Empty (o c)) (sym e) (retired K V a i))
 
+  -- a load that took cells
+  pub follow_load :
+      (old new : List Mark) (c : Call X Y) (r : store.Answer Y) (i n e : ℕ) (brought : Bor (List ℕ)) → r ≡ replies.Took n e → c ≡ calls.Load i brought →
+      Tell old a → answer_shown vb bs r ≡ (o c).answer → new ≡ set old i Published → Tell new (after K V a (call_shown kb vb c))
+  follow_load old new c r i n e brought is load told same put =
+      put ∙ ap (λ (ms : List Mark). set ms i Published) told
+      ∙ ap (λ x. on_took x (set (map mark_of a.places) i Published) (map mark_of a.places)) (sym (ap (answer_shown vb bs) is) ∙ same)
+      ∙ sym (subst (λ c. Loads K V a i (o c)) (sym load) (loaded K V a i brought.now))
+
   -- a call that is not done
-  quiet : (r : store.Answer Y) → (r ≡ Done → ⊥) → (x y : List Mark) → on_done (answer_shown vb r) x y ≡ y
+  quiet : (r : store.Answer Y) → (r ≡ Done → ⊥) → (x y : List Mark) → on_done (answer_shown vb bs r) x y ≡ y
   quiet Done h x y = absurd (h refl)
   quiet (replies.Took n e) h x y = refl
   quiet (replies.Found f) h x y = refl
   quiet (replies.Counted n) h x y = refl
+  quiet (replies.Equal b) h x y = refl
+  quiet (replies.Saved n) h x y = refl
   quiet (replies.Spare n e) h x y = refl
   quiet (replies.Refused f) h x y = refl
 
-  still_all : (c : Call X Y) → ((x y : List Mark) → on_done (o c).answer x y ≡ y) → Still K V a (o c)
-  still_all (calls.Open i) q = opened K V a i ∙ q _ _
-  still_all (calls.OpenFrom i j) q = opened_from K V a i j ∙ q _ _
-  still_all (calls.Put i k v) q = set_at K V a i (kb k) (vb v)
-  still_all (calls.Remove i k) q = removed K V a i (kb k)
-  still_all (calls.Publish i) q = published_at K V a i ∙ q _ _
-  still_all (calls.Abandon i) q = abandoned K V a i ∙ q _ _
-  still_all (calls.Retire i) q = retired K V a i ∙ q _ _
-  still_all (calls.LookUp i k) q = looked_up K V a i (kb k)
-  still_all (calls.Count i) q = counted_at K V a i
-  still_all calls.Free q = refl
+  -- a call that took no cells
+  took_none : (r : store.Answer Y) → ((n e : ℕ) → r ≡ replies.Took n e → ⊥) → (x y : List Mark) → on_took (answer_shown vb bs r) x y ≡ y
+  took_none Done h x y = refl
+  took_none (replies.Took n e) h x y = absurd (h n e refl)
+  took_none (replies.Found f) h x y = refl
+  took_none (replies.Counted n) h x y = refl
+  took_none (replies.Equal b) h x y = refl
+  took_none (replies.Saved n) h x y = refl
+  took_none (replies.Spare n e) h x y = refl
+  took_none (replies.Refused f) h x y = refl
 
-  pub follow_other : (old : List Mark) (c : Call X Y) (r : store.Answer Y) → (r ≡ Done → ⊥) → Tell old a → answer_shown vb r ≡ (o c).answer →
-      Tell old (after K V a (call_shown kb vb c))
-  follow_other old c r h told same = told ∙ sym (still_all c (λ x y. ap (λ z. on_done z x y) (sym same) ∙ quiet r h x y))
+  -- a load leaves each mark where it took no cells, and every other call where it is not done
+  still_all :
+      (c : Call X Y) → ((x y : List Mark) → on_done (o c).answer x y ≡ y) →
+      ((i : ℕ) (brought : Bor (List ℕ)) → c ≡ calls.Load i brought → (x y : List Mark) → on_took (o c).answer x y ≡ y) → Still K V a (o c)
+  still_all (calls.Open i) q t = opened K V a i ∙ q _ _
+  still_all (calls.OpenFrom i j) q t = opened_from K V a i j ∙ q _ _
+  still_all (calls.Put i k v) q t = set_at K V a i (kb k) (vb v)
+  still_all (calls.Remove i k) q t = removed K V a i (kb k)
+  still_all (calls.Publish i) q t = published_at K V a i ∙ q _ _
+  still_all (calls.Abandon i) q t = abandoned K V a i ∙ q _ _
+  still_all (calls.Retire i) q t = retired K V a i ∙ q _ _
+  still_all (calls.Load i brought) q t = loaded K V a i brought.now ∙ t i brought refl _ _
+  still_all (calls.LookUp i k) q t = looked_up K V a i (kb k)
+  still_all (calls.Count i) q t = counted_at K V a i
+  still_all (calls.Compare i j) q t = compared K V a i j
+  still_all (calls.Save i room) q t = saved_at K V a i room
+  still_all calls.Free q t = refl
+
+  pub follow_other : (old : List Mark) (c : Call X Y) (r : store.Answer Y) → (r ≡ Done → ⊥) → ((n e : ℕ) → r ≡ replies.Took n e → ⊥) → Tell old a →
+      answer_shown vb bs r ≡ (o c).answer → Tell old (after K V a (call_shown kb vb c))
+  follow_other old c r h t told same =
+      told
+      ∙ sym (still_all c (λ x y. ap (λ z. on_done z x y) (sym same) ∙ quiet r h x y)
+      (λ i brought is x y. ap (λ z. on_took z x y) (sym same) ∙ took_none r t x y))
+
+  -- a call that took cells and is no load
+  pub follow_edit : (old : List Mark) (c : Call X Y) (r : store.Answer Y) (n e : ℕ) → r ≡ replies.Took n e →
+      ((i : ℕ) (brought : Bor (List ℕ)) → c ≡ calls.Load i brought → ⊥) → Tell old a →
+      answer_shown vb bs r ≡ (o c).answer → Tell old (after K V a (call_shown kb vb c))
+  follow_edit old c r n e is other told same =
+      told
+      ∙ sym (still_all c (λ x y. ap (λ z. on_done z x y) (sym same ∙ ap (answer_shown vb bs) is)) (λ i brought load x y. absurd (other i brought load)))

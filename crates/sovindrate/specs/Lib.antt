@@ -1,2 +1,4 @@
 pub mod Sheets
 pub mod Marks
+pub mod Closing
+pub mod Commands

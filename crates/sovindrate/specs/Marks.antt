@@ -20,7 +20,7 @@ mark_of (model.published v) = Published
 abbrev pub Tell : List Mark → Account → Type 0
 Tell marks a = marks ≡ map mark_of a.places
 
--- marks were old and are now new: whichever account they told of, they tell of it after a call that it answers so
+-- marks were old and are now new: whichever account they told of, they tell of it after a call that it answers so, an image standing in the buffer bs
 abbrev pub Follow : {X Y : Type 0} → KeyKind → ValueKind → (X → List ℕ) → (Y → List ℕ) → List Mark → List Mark → Call X Y → Answer Y → Type 0
 Follow K V kb vb old new c r =
-    (a : Account) → Tell old a → answer_shown vb r ≡ (outcome K V a (call_shown kb vb c)).answer → Tell new (after K V a (call_shown kb vb c))
+    (a : Account) (bs : List ℕ) → Tell old a → answer_shown vb bs r ≡ (outcome K V a (call_shown kb vb c)).answer → Tell new (after K V a (call_shown kb vb c))

@@ -15,4 +15,13 @@ pub enum Fault {
         number: usize,
         expected: &'static str,
     },
+    // a file that a line names could not be read or written
+    #[error("line {number}: {error}")]
+    File {
+        number: usize,
+        error: io::Error,
+    },
+    // the store did not answer every call of a script: a bug of the program
+    #[error("a call was not answered")]
+    Unanswered,
 }

@@ -1,38 +1,42 @@
-// Runs scripts of a store's calls, and unites hand-over sheets: reads a file of either, prints what came of it.
+// Runs scripts of a store's calls, unites hand-over sheets, and inspects images: reads a file, prints what came of it.
 #![tactic(auto)]
 
+mod answers;
 mod calls;
+mod commands;
 mod fault;
+mod inspecting;
 mod lines;
 mod marks;
 mod report;
+mod room;
 mod running;
 mod script;
 mod sheet;
 mod spelled;
+mod steps;
 mod unite;
 
 use fault::Fault;
-use std::alloc::Global;
 use std::process::ExitCode;
+use std::rt::Files;
 use std::{env, fs, io};
 
 // The text of the file that is named, or standard input where none is.
-fn input(rt: &HostRuntime) -> Result<String, Fault> {
-    let mut args = env::args(rt)?;
-    let _program = args.next();
-    match args.next() {
-        Some(path) => Ok(fs::read_to_string(rt, path.as_str())?),
+fn input(rt: &HostRuntime, file: Option<&str>) -> Result<String, Fault> {
+    match file {
+        Some(path) => Ok(fs::read_to_string(rt, path)?),
         None => Ok(io::read_to_string(rt.alloc(), rt.stdin())?),
     }
 }
 
 // What is printed of a text, which is a script or sheets by its first word.
-fn printed(heap: Global, text: &str) -> Result<String, Fault> {
+fn printed<R: Files + AllocGlobal>(rt: &R, text: &str) -> Result<String, Fault> {
+    let heap = rt.alloc();
     let statements = script::statements(heap, text)?;
     match statements.as_slice() {
         [first, lines @ ..] => match first.words.as_slice() {
-            ["store", ..] => running::run_script(heap, first, lines),
+            ["store", ..] => running::run_script(rt, first, lines),
             ["sheet", ..] => report::report(heap, text),
             _ => Err(Fault::Line {
                 number: first.number,
@@ -44,8 +48,19 @@ fn printed(heap: Global, text: &str) -> Result<String, Fault> {
 }
 
 fn run(rt: &HostRuntime) -> Result<(), Fault> {
-    let text = input(rt)?;
-    let out = printed(rt.alloc(), text.as_str())?;
+    let mut args = env::args(rt)?;
+    let _program = args.next();
+    let (first, second) = (args.next(), args.next());
+    let out = match (first.as_deref(), second.as_deref()) {
+        (Some("inspect"), Some(path)) => {
+            let image = fs::read(rt, path)?;
+            inspecting::inspect(rt.alloc(), path, image.as_slice())?
+        }
+        (file, _) => {
+            let text = input(rt, file)?;
+            printed(rt, text.as_str())?
+        }
+    };
     rt.print(out)?;
     Ok(())
 }

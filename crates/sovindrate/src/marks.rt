@@ -57,17 +57,23 @@ impl Marks {
         }
     }
 
-    // What a call left, if it was done.
+    // What a call left.
     pub fn note<K: Key, V: Value>(&mut self, call: &Call<K, V>, answer: &Answer<V>)
         ensures { Follow K.kind V.kind K.bytes V.bytes self.old.places self.new.places call.now answer.now }
     {
-        if let Answer::Done = answer {
-            match call {
+        match answer {
+            Answer::Done => match call {
                 Call::Open(place) | Call::OpenFrom(place, _) => self.set(*place, Mark::Draft),
                 Call::Publish(place) => self.set(*place, Mark::Published),
                 Call::Abandon(place) | Call::Retire(place) => self.set(*place, Mark::Empty),
                 _ => {}
+            },
+            Answer::Took(..) => {
+                if let Call::Load(place, _) = call {
+                    self.set(*place, Mark::Published);
+                }
             }
+            _ => {}
         }
     }
 }

@@ -1,4 +1,4 @@
-// What a script says: the words of its lines, and the call that words are. A word that begins with # starts a comment.
+// What a script says: the words of its lines, and what words ask for. A word that begins with # starts a comment.
 use super::spelled::number;
 use std::alloc::{AllocError, Global};
 use store::Call;
@@ -37,12 +37,41 @@ pub struct Start<'a> {
     pub entries: u32,
 }
 
+// Where the image of a load comes from.
+#[derive(Clone, Copy)]
+pub enum Source<'a> {
+    // hexadecimal digits, or - for an image of no bytes
+    Digits(&'a str),
+    File(&'a str),
+}
+
+// Where a saved image goes.
+#[derive(Clone, Copy)]
+pub enum Target<'a> {
+    // it is printed, from a buffer that any image fits in, or of so many bytes
+    Printed,
+    PrintedFrom(u32),
+    File(&'a str),
+}
+
+// What a line asks for: a call, but that a load has no image yet, and a save no buffer.
+#[derive(Clone, Copy)]
+pub enum Ask<'a, K, V> {
+    Call(Call<'a, K, V>),
+    Load(u32, Source<'a>),
+    Save(u32, Target<'a>),
+}
+
 fn length(word: &str) -> Result<u32, &'static str> {
     number(word).map_err(|_| "a table's length, a number below 4294967296")
 }
 
 fn place(word: &str) -> Result<u32, &'static str> {
     number(word).map_err(|_| "a place, a number below 4294967296")
+}
+
+fn room(word: &str) -> Result<u32, &'static str> {
+    number(word).map_err(|_| "a buffer's length, a number below 4294967296")
 }
 
 // The start that words are, or what they should have been.
@@ -58,8 +87,22 @@ pub fn start_of<'a>(words: &[&'a str]) -> Result<Start<'a>, &'static str> {
     }
 }
 
-// The call that words are, its key and its value still as words, or what they should have been.
-pub fn call_of<'a>(words: &[&'a str]) -> Result<Call<&'a str, &'a str>, &'static str> {
+// What words ask for, a key and a value still as words, or what they should have been.
+pub fn ask_of<'a>(words: &[&'a str]) -> Result<Ask<'a, &'a str, &'a str>, &'static str> {
+    match words {
+        ["load", p, "from", file] => Ok(Ask::Load(place(*p)?, Source::File(*file))),
+        ["load", p, digits] => Ok(Ask::Load(place(*p)?, Source::Digits(*digits))),
+        ["load", ..] => Err("load P HEX, or load P from FILE"),
+        ["save", p] => Ok(Ask::Save(place(*p)?, Target::Printed)),
+        ["save", p, n] => Ok(Ask::Save(place(*p)?, Target::PrintedFrom(room(*n)?))),
+        ["save", p, "to", file] => Ok(Ask::Save(place(*p)?, Target::File(*file))),
+        ["save", ..] => Err("save P, save P ROOM, or save P to FILE"),
+        _ => Ok(Ask::Call(call_of(words)?)),
+    }
+}
+
+// The same of the calls that need nothing more.
+fn call_of<'a>(words: &[&'a str]) -> Result<Call<'a, &'a str, &'a str>, &'static str> {
     match words {
         ["open", p] => Ok(Call::Open(place(*p)?)),
         ["open", p, q] => Ok(Call::OpenFrom(place(*p)?, place(*q)?)),
@@ -70,6 +113,7 @@ pub fn call_of<'a>(words: &[&'a str]) -> Result<Call<&'a str, &'a str>, &'static
         ["retire", p] => Ok(Call::Retire(place(*p)?)),
         ["lookup", p, key] => Ok(Call::LookUp(place(*p)?, *key)),
         ["count", p] => Ok(Call::Count(place(*p)?)),
+        ["compare", p, q] => Ok(Call::Compare(place(*p)?, place(*q)?)),
         ["free"] => Ok(Call::Free),
         ["open", ..] => Err("open P, or open P Q"),
         ["put", ..] => Err("put P KEY VALUE"),
@@ -79,7 +123,10 @@ pub fn call_of<'a>(words: &[&'a str]) -> Result<Call<&'a str, &'a str>, &'static
         ["retire", ..] => Err("retire P"),
         ["lookup", ..] => Err("lookup P KEY"),
         ["count", ..] => Err("count P"),
+        ["compare", ..] => Err("compare P Q"),
         ["free", ..] => Err("free"),
-        _ => Err("a call: open, put, remove, publish, abandon, retire, lookup, count or free"),
+        _ => Err(
+            "a call: open, put, remove, publish, abandon, retire, load, lookup, count, compare, save or free",
+        ),
     }
 }

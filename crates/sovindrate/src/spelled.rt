@@ -1,4 +1,4 @@
-// How keys and values are read from a sheet or a script.
+// How keys and values are read from a sheet or a script, and what their kinds are called.
 use keys::{Bobbin, Id, Path};
 use kinds::Refusal;
 use std::fmt::Display;
@@ -18,6 +18,9 @@ pub enum Misspelt {
 }
 
 pub trait Spelled: Copy + Display {
+    // What the kind is called.
+    const NAME: &'static str;
+
     // What a word of this kind looks like.
     const EXPECTED: &'static str;
 
@@ -36,6 +39,8 @@ where
 }
 
 impl Spelled for Path {
+    const NAME: &'static str = "path";
+
     const EXPECTED: &'static str = "a path";
 
     fn parse(word: &str) -> Result<Self, Misspelt> {
@@ -44,6 +49,8 @@ impl Spelled for Path {
 }
 
 impl Spelled for Id {
+    const NAME: &'static str = "id";
+
     const EXPECTED: &'static str = "an id, a number below 4294967296";
 
     fn parse(word: &str) -> Result<Self, Misspelt> {
@@ -54,6 +61,8 @@ impl Spelled for Id {
 }
 
 impl Spelled for Bobbin {
+    const NAME: &'static str = "bobbin";
+
     const EXPECTED: &'static str = "a bobbin, a number below 256";
 
     fn parse(word: &str) -> Result<Self, Misspelt> {
@@ -64,6 +73,8 @@ impl Spelled for Bobbin {
 }
 
 impl Spelled for Limit {
+    const NAME: &'static str = "limit";
+
     const EXPECTED: &'static str = "a limit, a number below 4294967296";
 
     fn parse(word: &str) -> Result<Self, Misspelt> {
@@ -74,6 +85,8 @@ impl Spelled for Limit {
 }
 
 impl Spelled for Flags {
+    const NAME: &'static str = "flags";
+
     const EXPECTED: &'static str = "flags, up to 8 hexadecimal digits";
 
     fn parse(word: &str) -> Result<Self, Misspelt> {
@@ -86,6 +99,8 @@ impl Spelled for Flags {
 }
 
 impl Spelled for Register {
+    const NAME: &'static str = "register";
+
     const EXPECTED: &'static str =
         "a register, STAMP,OFFSET with a stamp below 4294967296 and an offset from -32768 to 32767";
 
