@@ -21,8 +21,8 @@ pub fn assert_saved<K: Key, V: Value>(
     image: &[u8],
 ) {
     let length = image.len();
-    assert!(rt; 0 < length && length <= 150);
-    let mut out = [FILLING; 160];
+    assert!(rt; 0 < length && length <= 190);
+    let mut out = [FILLING; 200];
     let short = store.save(place, &mut out[..length - 1]);
     assert_eq!(rt; short, Err(Refusal::BufferTooShort), "{image:?}");
     assert_eq!(rt;
@@ -37,7 +37,7 @@ pub fn assert_saved<K: Key, V: Value>(
         "{image:?}"
     );
     assert!(rt; has_image(&out, image), "{out:?} for {image:?}");
-    let mut long = [FILLING; 160];
+    let mut long = [FILLING; 200];
     assert_eq!(rt; store.save(place, &mut long), Ok(length), "{image:?}");
     assert!(rt; has_image(&long, image), "{long:?} for {image:?}");
 }

@@ -63,7 +63,7 @@ const TWO_RULES: [Rule; 28] = [
     (8, 8, 0x01, 0x01, Broken(36)),
     (8, 8, 0, 0, Broken(14)),
     (9, 9, 0, 0, Broken(9)),
-    // the child has one entry; digit 9 is the second of more than two; another digit is the second
+    // the child has one entry, its maps being 0001 and 0000; digit 9 is the second of more than two; another digit is the second
     (10, 10, 0xFF, 0x00, Broken(9)),
     (10, 10, 0x03, 0x02, Broken(36)),
     (10, 10, 0, 0, Broken(25)),

@@ -1,12 +1,12 @@
 // Versions compared, and places where there is none to be compared or saved.
 use super::asserting::{assert_published, assert_puts, assert_saved};
-use super::examples::{ONE, THREE};
-use keys::Id;
+use super::examples::{BOBBINS, FULL, ONE, THREE};
+use keys::{Bobbin, Id};
 use kinds::Refusal;
 use std::process::Abort;
 use store::start;
 use tables::{EntryCell, NodeCell};
-use values::Register;
+use values::{Limit, Register};
 
 // Ids 0, 1 and 16 in two orders. Then id 16 gets another offset, and its own again.
 #[test]
@@ -59,6 +59,45 @@ fn two_orders(rt: HostRuntime) {
     assert_eq!(rt; store.compare(1, 0), Ok(true));
     assert_published(&rt, &mut store, rising);
     assert_published(&rt, &mut store, falling);
+}
+
+// Two versions that differ at one of 16 digits.
+#[test]
+fn each_digit(rt: HostRuntime) {
+    let mut nodes = [NodeCell::empty(); 4];
+    let mut entries: [EntryCell<Id, Register>; 18] = [EntryCell::empty(); 18];
+    let Ok(mut store) = start(&mut nodes, &mut entries) else {
+        rt.panic("not started")
+    };
+    assert_eq!(rt; store.load(0, &FULL), Ok((1, 16)));
+    for number in 0..16 {
+        let draft = store.open_from(1, 0).expect(&rt, "an empty place");
+        let other = Register {
+            stamp: number,
+            offset: 1,
+        };
+        assert_puts(&rt, &mut store, &draft, &[(Id { number }, other, 1)]);
+        assert_eq!(rt; store.compare(0, 1), Ok(false), "id {number}");
+        assert_published(&rt, &mut store, draft);
+        assert_eq!(rt; store.retire(1), Ok(()));
+    }
+}
+
+// Three keys of one hash, of which the first two are those of the other version.
+#[test]
+fn one_more_of_a_hash(rt: HostRuntime) {
+    let mut nodes = [NodeCell::empty(); 18];
+    let mut entries: [EntryCell<Bobbin, Limit>; 3] = [EntryCell::empty(); 3];
+    let Ok(mut store) = start(&mut nodes, &mut entries) else {
+        rt.panic("not started")
+    };
+    assert_eq!(rt; store.load(0, &BOBBINS), Ok((9, 2)));
+    let draft = store.open_from(1, 0).expect(&rt, "an empty place");
+    let third = (Bobbin { number: 8 }, Limit { number: 6 }, 9);
+    assert_puts(&rt, &mut store, &draft, &[third]);
+    assert_eq!(rt; store.compare(0, 1), Ok(false));
+    assert_eq!(rt; store.compare(1, 0), Ok(false));
+    assert_published(&rt, &mut store, draft);
 }
 
 #[test]

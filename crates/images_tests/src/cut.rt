@@ -1,6 +1,6 @@
 // Every image that is cut is refused with 8 at the command that is not all there.
 use super::asserting::assert_load;
-use super::examples::{BOBBINS, EMPTY, ONE, PATH, SIXTEEN, THREE, TWO};
+use super::examples::{BOBBINS, EMPTY, FULL, ONE, PATH, SIXTEEN, THREE, TWO};
 use keys::{Bobbin, Id, Path};
 use kinds::{Key, Refusal, Value};
 use std::process::Abort;
@@ -35,6 +35,10 @@ fn ids(rt: HostRuntime) {
     assert_cuts(&rt, &mut store, &ONE, &[0, 4, 9, 20]);
     assert_cuts(&rt, &mut store, &TWO, &[0, 4, 9, 14, 25, 36]);
     assert_cuts(&rt, &mut store, &THREE, &[0, 4, 9, 20, 25, 36, 47]);
+    let full = [
+        0, 4, 9, 20, 31, 42, 53, 64, 75, 86, 97, 108, 119, 130, 141, 152, 163, 174, 185,
+    ];
+    assert_cuts(&rt, &mut store, &FULL, &full);
 }
 
 #[test]

@@ -35,6 +35,29 @@ pub const THREE: [u8; 52] = [
     0x5A, 0, 0, 0, 3, // at 47: the end
 ];
 
+// Ids 0 to 15, each with its own number as the stamp and offset 0. The digit 0 of an id is 9 times the id, modulo 16.
+pub const FULL: [u8; 190] = [
+    0x56, 4, 2, 3, // header
+    0x4E, 0xFF, 0xFF, 0x00, 0x00, // at 4: the root
+    0x45, 0, 0, 0, 0, 0, 0, 0, 0, 0, 0, // at 9: digit 0
+    0x45, 0, 0, 0, 9, 0, 0, 0, 9, 0, 0, // at 20
+    0x45, 0, 0, 0, 2, 0, 0, 0, 2, 0, 0, // at 31
+    0x45, 0, 0, 0, 11, 0, 0, 0, 11, 0, 0, // at 42
+    0x45, 0, 0, 0, 4, 0, 0, 0, 4, 0, 0, // at 53
+    0x45, 0, 0, 0, 13, 0, 0, 0, 13, 0, 0, // at 64
+    0x45, 0, 0, 0, 6, 0, 0, 0, 6, 0, 0, // at 75
+    0x45, 0, 0, 0, 15, 0, 0, 0, 15, 0, 0, // at 86
+    0x45, 0, 0, 0, 8, 0, 0, 0, 8, 0, 0, // at 97
+    0x45, 0, 0, 0, 1, 0, 0, 0, 1, 0, 0, // at 108
+    0x45, 0, 0, 0, 10, 0, 0, 0, 10, 0, 0, // at 119
+    0x45, 0, 0, 0, 3, 0, 0, 0, 3, 0, 0, // at 130
+    0x45, 0, 0, 0, 12, 0, 0, 0, 12, 0, 0, // at 141
+    0x45, 0, 0, 0, 5, 0, 0, 0, 5, 0, 0, // at 152
+    0x45, 0, 0, 0, 14, 0, 0, 0, 14, 0, 0, // at 163
+    0x45, 0, 0, 0, 7, 0, 0, 0, 7, 0, 0, // at 174: digit F
+    0x5A, 0, 0, 0, 16, // at 185: the end
+];
+
 // Bobbins 0 and 4 with the limits 5 and 168,496,141. Their hash is 00000000: a node at each depth from 0 to 8.
 pub const BOBBINS: [u8; 63] = [
     0x56, 4, 3, 1, // header

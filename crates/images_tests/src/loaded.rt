@@ -1,6 +1,6 @@
 // Loads that are refused for the place or for want of room, and images that go on after their end.
 use super::asserting::{assert_load, assert_published};
-use super::examples::{BOBBINS, EMPTY, ONE, PATH, SIXTEEN, THREE, TWO};
+use super::examples::{BOBBINS, EMPTY, FULL, ONE, PATH, SIXTEEN, THREE, TWO};
 use keys::{Bobbin, Id};
 use kinds::{Key, Refusal, Value};
 use std::process::Abort;
@@ -11,9 +11,9 @@ use values::{Limit, Register};
 // One more byte, or two, behind an image.
 fn assert_longer<K: Key, V: Value>(rt: &impl Abort, store: &mut Store<K, V>, image: &[u8]) {
     let at = image.len();
-    assert!(rt; at <= 150);
+    assert!(rt; at <= 190);
     for byte in [0x00, 0x45, 0x4E, 0x56, 0x5A, 0xFF] {
-        let mut longer = [byte; 160];
+        let mut longer = [byte; 192];
         longer[..at].copy_from_slice(image);
         assert_load(rt, store, &longer[..at + 1], Err(Refusal::Broken { at }));
         assert_load(rt, store, &longer[..at + 2], Err(Refusal::Broken { at }));
@@ -31,6 +31,7 @@ fn more_after_ids(rt: HostRuntime) {
     assert_longer(&rt, &mut store, &ONE);
     assert_longer(&rt, &mut store, &TWO);
     assert_longer(&rt, &mut store, &THREE);
+    assert_longer(&rt, &mut store, &FULL);
 }
 
 #[test]

@@ -1,6 +1,6 @@
 // A version that puts made has the image that was worked out, and that image loads as an equal version.
 use super::asserting::{assert_published, assert_puts, assert_saved};
-use super::examples::{BOBBINS, EMPTY, ONE, PATH, SIXTEEN, THREE, TWO};
+use super::examples::{BOBBINS, EMPTY, FULL, ONE, PATH, SIXTEEN, THREE, TWO};
 use keys::{Bobbin, Id, Path};
 use kinds::{Key, Refusal, Value};
 use std::process::Abort;
@@ -70,6 +70,28 @@ fn ids(rt: HostRuntime) {
         (Id { number: 0 }, zero, 2),
     ];
     assert_round_trip(&rt, &mut store, &settings, &THREE, (2, 3));
+}
+
+#[test]
+fn ids_of_all_digits(rt: HostRuntime) {
+    let mut nodes = [NodeCell::empty(); 32];
+    let mut entries: [EntryCell<Id, Register>; 32] = [EntryCell::empty(); 32];
+    let Ok(mut store) = start(&mut nodes, &mut entries) else {
+        rt.panic("not started")
+    };
+    let none = Register {
+        stamp: 0,
+        offset: 0,
+    };
+    let mut settings = [(Id { number: 0 }, none, 1); 16];
+    for number in 0..16 {
+        let value = Register {
+            stamp: number,
+            offset: 0,
+        };
+        settings[number as usize] = (Id { number }, value, 1);
+    }
+    assert_round_trip(&rt, &mut store, &settings, &FULL, (1, 16));
 }
 
 #[test]
