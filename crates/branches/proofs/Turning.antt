@@ -182,9 +182,9 @@ module _ {X Y : Type 0} (K : KeyKind) (kb : X → List ℕ) (vb : Y → List ℕ
                 (ap (λ (y : ℕ). total (λ y. (portion_at y).new_entries) (range_with_len 0 y)) (sym z) ∙ total_next (λ y. (portion_at y).new_entries) g);
           }
 
-    -- ---- all sixteen digits, where no source has the part
+    -- ---- all sixteen digits, where no source has the part, or it is no node
 
-    module _ (hand : NodeCell) (U : Tables X Y) (P : Turned 16 hand U) (differs : first_same sources m ≡ None) where
+    module _ (hand : NodeCell) (U : Tables X Y) (P : Turned 16 hand U) (differs : bushy (suc h) m ≡ true → first_same sources m ≡ None) where
       entries_are : listed hand.datamap hand.entries ≡ P.xs
       entries_are = bundled_entries hand _ _ P.xs P.ks P.bundled (omega (arith, length-map-range_with_len (λ y. one (result_at y)) 0 16))
 
@@ -209,7 +209,7 @@ module _ {X Y : Type 0} (K : KeyKind) (kb : X → List ℕ) (vb : Y → List ℕ
           room_one U.spare (total (λ y. (portion_at y).new_nodes) sixteen) (portion K n (suc h) p sources m).new_nodes T.spare
           (ap (λ (l : List ℕ). U.spare + total (λ y. (portion_at y).new_nodes) l) sixteen_is ∙ P.spent)
           (portion_nodes K n h low p sources m
-          ∙ ap (λ (y : ℕ). total (λ y. (portion_at y).new_nodes) sixteen + y) (cond-true (bushy (suc h) m) _ 0 (is_bushy e) ∙ ap (λ (o : Option Part). cond (is_some o) 0 1) differs))
+          ∙ ap (λ (y : ℕ). total (λ y. (portion_at y).new_nodes) sixteen + y) (cond-true (bushy (suc h) m) _ 0 (is_bushy e) ∙ ap (λ (o : Option Part). cond (is_some o) 0 1) (differs (is_bushy e))))
           enough
 
       -- the children are one level down
@@ -254,5 +254,5 @@ module _ {X Y : Type 0} (K : KeyKind) (kb : X → List ℕ) (vb : Y → List ℕ
       turned_assembled clear (Child i) W stay A =
           let f : bushy (suc h) m ≡ true = is_bushy A.0 in
           subst (λ (s : Shared). Built K kb vb n (suc h) p m s T N R E (Child i) W) (sym (portion_bushy K n (suc h) p sources m f))
-          (gathered_node K kb vb n h p sources m T N R E deep P.xs P.ks U P.gathered clear differs f i (node_cell hand (suc h)) W stay A.1
+          (gathered_node K kb vb n h p sources m T N R E deep P.xs P.ks U P.gathered clear (differs f) f i (node_cell hand (suc h)) W stay A.1
           children_are entries_are (P.bundled.data_bits ∙ map_parts one) (P.bundled.node_bits ∙ map_parts many) refl (omega arith))

@@ -40,7 +40,7 @@ insert_long K s (t ∷ m) = go (K.before s.key t.key) (K.before t.key s.key) (in
     go false true l = omega arith
     go false false l = omega arith
 
-tabulate_long : (K : KeyKind) (ks : List (List ℕ)) (f : List ℕ → Option (List ℕ)) → length (tabulate K ks f) ≤ length ks
+pub tabulate_long : (K : KeyKind) (ks : List (List ℕ)) (f : List ℕ → Option (List ℕ)) → length (tabulate K ks f) ≤ length ks
 tabulate_long K [] f = omega arith
 tabulate_long K (k ∷ ks) f = go (f k) (tabulate_long K ks f)
   where
@@ -54,7 +54,7 @@ edited_long K m k None = omega (arith, tabulate_long K (keys m) (λ j. cond (sam
 
 -- ---- a branch that is kept
 
-kept_size : {X Y : Type 0} (T : Tables X Y) (N : Notes) (b : Branch) (h : ℕ) (p : List ℕ) (a : Part) → h < 8 → Is T N b h p a → branch_size b ≡ capped (length a.settings)
+pub kept_size : {X Y : Type 0} (T : Tables X Y) (N : Notes) (b : Branch) (h : ℕ) (p : List ℕ) (a : Part) → h < 8 → Is T N b h p a → branch_size b ≡ capped (length a.settings)
 kept_size T N Nothing h p a low is = ap (λ (c : Part). capped (length c.settings)) (sym is)
 kept_size T N (Entry e) h p a low is = ap (λ (m : Map). capped (length m)) (sym is.1.settings)
 kept_size T N (Child i) h p a low is = sym (cond-true (ltb 1 (length a.settings)) 2 _ (lt-ltb 1 (length a.settings) (bushy_many h a.settings low is.1)))
@@ -64,10 +64,10 @@ kept_size T N (Child i) h p a low is = sym (cond-true (ltb 1 (length a.settings)
 product_few : (h z : ℕ) → h < 8 → z ≤ 65536 → suc h * z ≤ 9 * 65536
 product_few h z l e = mul-le-mul {n₁ = suc h} {m₁ = z} {n₂ = 9} {m₂ = 65536} (omega arith) e
 
-sizes_few : (s t y z : ℕ) → s ≡ capped y → t ≡ capped z → s + t ≤ 4
+pub sizes_few : (s t y z : ℕ) → s ≡ capped y → t ≡ capped z → s + t ≤ 4
 sizes_few s t y z e f = omega (arith, capped_few y, capped_few z)
 
-at_most : {s t u : ℕ} → s ≡ t → t ≤ u → s ≤ u
+pub at_most : {s t u : ℕ} → s ≡ t → t ≤ u → s ≤ u
 at_most e l = omega arith
 
 -- ---- digits
@@ -108,7 +108,7 @@ module _ {X Y : Type 0} (K : KeyKind) (V : ValueKind) (kb : X → List ℕ) (vb 
   result_few = omega (arith, edited_long K a.settings k x, q.few)
 
   -- the numbers of the first digits are small
-  digits_few : (n i : ℕ) → i ≤ 16 → ((summed (exact_at K n h p a m) (range_with_len 0 i)).nodes ≤ 9 * 65536) × ((summed (exact_at K n h p a m) (range_with_len 0 i)).entries ≤ 9 * 65536)
+  digits_few : (n i : ℕ) → i ≤ 16 → ((summed (exact_at K n h p a m) (range_with_len 0 i)).nodes ≤ 18 * 65536) × ((summed (exact_at K n h p a m) (range_with_len 0 i)).entries ≤ 18 * 65536)
   digits_few n i l =
       let w = summed_few K n h (omega (arith, low)) p a a m (exact_at K n h p a m) i l (λ g z. told_exact K n h (p ++ (g ∷ [])) (below K p g a) (below K p g a) (at_digit K (length p) m g)) in
       let r = product_few h (length m) low result_few in
@@ -212,7 +212,7 @@ module _ {X Y : Type 0} (K : KeyKind) (V : ValueKind) (kb : X → List ℕ) (vb 
     }
 
   module _ (tall : 0 < level) (g : ℕ) (sum : Estimate) (S : Summed K V kb vb T b k x level g sum) (all : g ≡ 16) where
-    pub close_few : Seen K V kb vb T b k x level → sum.nodes ≤ 9 * 65536
+    pub close_few : Seen K V kb vb T b k x level → sum.nodes ≤ 18 * 65536
     close_few q =
         let w = digits_few K V kb vb T b k x level q tall 0 g (omega arith) in
         at_most (ap (λ (t : Tally). t.nodes) (S.so_far q 0 tall)) w.0

@@ -14,8 +14,8 @@ use Rattle.edits.specs.Sets.{tally, Alone}
 -- two estimates whose numbers may be added
 pub record Addable (a b : Estimate) : Type 0 where
   pub sizes : a.size + b.size ≤ 4
-  pub nodes : a.nodes + b.nodes ≤ 9 * 65536
-  pub entries : a.entries + b.entries ≤ 9 * 65536
+  pub nodes : a.nodes + b.nodes ≤ 18 * 65536
+  pub entries : a.entries + b.entries ≤ 18 * 65536
 
 -- ---- a branch that is kept
 

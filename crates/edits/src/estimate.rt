@@ -20,7 +20,7 @@ pub struct Estimate {
 
 impl Estimate {
     // Of no digit yet.
-    pub(crate) fn of_nothing() -> Estimate
+    pub fn of_nothing() -> Estimate
         ensures { tally result ≡ nothing_told }
     {
         Estimate {
@@ -34,7 +34,7 @@ impl Estimate {
     }
 
     // Of a branch that is kept.
-    pub(crate) fn of_kept(at: Branch) -> Estimate
+    pub fn of_kept(at: Branch) -> Estimate
         ensures { tally result ≡ kept_told at }
     {
         let size = match at {
@@ -63,7 +63,7 @@ impl Estimate {
     }
 
     // With one digit more.
-    pub(crate) fn and(self, other: Estimate) -> Estimate
+    pub fn and(self, other: Estimate) -> Estimate
         requires { Addable self other }
         ensures { tally result ≡ add (tally self) (tally other) }
     {
@@ -78,8 +78,8 @@ impl Estimate {
     }
 
     // All sixteen digits as a branch: one node more where it is a new one.
-    pub(crate) fn close(self, level: u8) -> Estimate
-        requires { self.nodes ≤ 9 * 65536 }
+    pub fn close(self, level: u8) -> Estimate
+        requires { self.nodes ≤ 18 * 65536 }
         ensures { tally result ≡ closed level (tally self) }
     {
         let new = self.size > usize::from(level < 8) && !self.ours && !self.theirs;

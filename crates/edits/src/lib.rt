@@ -8,4 +8,5 @@ mod setting;
 
 pub use estimate::Estimate;
 pub use estimating::estimate_set;
+pub use rows::{as_node, split_row};
 pub use setting::set;

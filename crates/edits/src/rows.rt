@@ -16,7 +16,7 @@ use std::cmp::Ordering;
 use tables::{EntryId, EntryTable, NodeCell, NodeTable, Tables, hold_entry, make_entry};
 
 // A branch at the deepest level as a node with the same entries.
-fn as_node(nodes: &NodeTable, branch: Branch) -> NodeCell
+pub fn as_node(nodes: &NodeTable, branch: Branch) -> NodeCell
     requires { NodeIn nodes.now.cells.now branch }
     ensures { singles result ≡ entries_of nodes.now.cells.now branch }
 {
@@ -53,7 +53,7 @@ fn find_in<K: Key, V: Value>(
 }
 
 // The entries of a row before a key, the one that has it, and those after it.
-fn split_row<'a, K: Key, V: Value>(
+pub fn split_row<'a, K: Key, V: Value>(
     entries: &EntryTable<K, V>,
     row: &'a [u16],
     key: &K,

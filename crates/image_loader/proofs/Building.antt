@@ -174,11 +174,11 @@ module _ {X Y : Type 0} (K : KeyKind) (V : ValueKind) (kb : X → List ℕ) (vb 
 
   module _ (hand : NodeCell) (single child : ℕ) (U : Tables X Y) (I : Midst 16 hand single child U) where
     pub midst_ready : Assembling hand (suc h) U.nodes U.free U.spare
-    midst_ready = turned_assembles K kb vb n h p [] m T q.notes q.roots q.in_hand q.deep hand U I.turned refl q.room
+    midst_ready = turned_assembles K kb vb n h p [] m T q.notes q.roots q.in_hand q.deep hand U I.turned (λ b. refl) q.room
 
     pub midst_built : (r : Branch) (W : Tables X Y) → EntriesStay U W → Assembled hand (suc h) r U.nodes U.free U.spare W.nodes W.free W.spare
         → Built K kb vb n (suc h) p m (portion K n (suc h) p [] m) T q.notes q.roots q.in_hand r W
-    midst_built r W stay done = turned_assembled K kb vb n h p [] m T q.notes q.roots q.in_hand q.deep hand U I.turned refl q.clear r W stay done
+    midst_built r W stay done = turned_assembled K kb vb n h p [] m T q.notes q.roots q.in_hand q.deep hand U I.turned (λ b. refl) q.clear r W stay done
 
     pub midst_to : child ≡ at + length (node K (suc h) m)
     midst_to = kids_end K V bs h m q.sound at q.here child I.kids
