@@ -1,0 +1,12 @@
+pub mod Turns
+pub mod Results
+pub mod Cells
+pub mod Estimates
+pub mod Decisions
+pub mod Firsts
+pub mod Heads
+pub mod Walks
+pub mod RowEstimates
+pub mod RowHands
+pub mod RowEnds
+pub mod RowMerges
