@@ -34,7 +34,7 @@ value_made V vb law None = tt
 pub took_accepts : (n e : ℕ) (x : Refused) → took n e ≡ refused x → ⊥
 took_accepts n e x p = let z : ◌≡◌ {A = ℕ} 0 1 = cc in omega arith
 
-as_often : (x y z r o o' b n : ℕ) → x ≡ r + o → y ≡ b + z → z ≡ r + o' → o' + b ≡ o + n → n ≡ 0 → x ≡ y
+pub as_often : (x y z r o o' b n : ℕ) → x ≡ r + o → y ≡ b + z → z ≡ r + o' → o' + b ≡ o + n → n ≡ 0 → x ≡ y
 as_often x y z r o o' b n e f g h w = omega arith
 
 -- no draft is at the place

@@ -16,3 +16,5 @@ pub mod Saves
 pub mod Loads
 pub mod Runs
 pub mod Promises
+pub mod Merged
+pub mod Joined

@@ -5,7 +5,7 @@ use Rattle.kinds.specs.Refusals.{shown}
 use Rattle.model.specs.Calls as model
 use Rattle.branches.specs.Asked.{bytes_found}
 use Rattle.store.specs.declared.calls.Call.{Call}
-use Rattle.store.specs.declared.calls.Call.TheVariants.{Open, OpenFrom, Put, Remove, Publish, Abandon, Retire, Load, LookUp, Count, Compare, Save, Free}
+use Rattle.store.specs.declared.calls.Call.TheVariants.{Open, OpenFrom, Put, Remove, Union, Merge, Publish, Abandon, Retire, Load, LookUp, Count, Compare, Save, Free}
 use Rattle.store.specs.declared.calls.Answer.{Answer}
 use Rattle.store.specs.declared.calls.Answer.TheVariants.{Done, Took, Found, Counted, Equal, Saved, Spare, Refused}
 
@@ -14,6 +14,8 @@ call_shown kb vb (Open p) = model.Open p
 call_shown kb vb (OpenFrom p q) = model.OpenFrom p q
 call_shown kb vb (Put p k v) = model.Put p (kb k) (vb v)
 call_shown kb vb (Remove p k) = model.Remove p (kb k)
+call_shown kb vb (Union p q) = model.Union p q
+call_shown kb vb (Merge p b t) = model.Merge p b t
 call_shown kb vb (Publish p) = model.Publish p
 call_shown kb vb (Abandon p) = model.Abandon p
 call_shown kb vb (Retire p) = model.Retire p

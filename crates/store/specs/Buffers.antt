@@ -5,7 +5,7 @@ use Rattle.kinds.specs.declared.refusal.Refusal.{Refusal}
 use Rattle.model.specs.Accounts.{Account}
 use Rattle.model.specs.Calls as model
 use Rattle.store.specs.declared.calls.Call.{Call}
-use Rattle.store.specs.declared.calls.Call.TheVariants.{Open, OpenFrom, Put, Remove, Publish, Abandon, Retire, Load, LookUp, Count, Compare, Save, Free}
+use Rattle.store.specs.declared.calls.Call.TheVariants.{Open, OpenFrom, Put, Remove, Union, Merge, Publish, Abandon, Retire, Load, LookUp, Count, Compare, Save, Free}
 use Rattle.store.specs.declared.calls.Answer.{Answer}
 use Rattle.store.specs.declared.calls.Answer.TheVariants.{Done, Took, Found, Counted, Equal, Saved, Spare, Refused}
 use Rattle.store.specs.Answers.{call_shown, answer_shown}
@@ -27,6 +27,8 @@ room_of (Open p) = 0
 room_of (OpenFrom p q) = 0
 room_of (Put p k v) = 0
 room_of (Remove p k) = 0
+room_of (Union p q) = 0
+room_of (Merge p b t) = 0
 room_of (Publish p) = 0
 room_of (Abandon p) = 0
 room_of (Retire p) = 0

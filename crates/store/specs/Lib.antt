@@ -7,4 +7,5 @@ pub mod Fresh
 pub mod Starts
 pub mod Drafts
 pub mod Sets
+pub mod Merges
 pub mod Runs

@@ -11,6 +11,10 @@ pub enum Call<'a, K, V> {
     OpenFrom(u32, u32),
     Put(u32, K, V),
     Remove(u32, K),
+    // with a published place
+    Union(u32, u32),
+    // over a published base, with a published place
+    Merge(u32, u32, u32),
     Publish(u32),
     Abandon(u32),
     Retire(u32),

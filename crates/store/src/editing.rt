@@ -2,7 +2,7 @@
 ghost use Rattle.store.specs.Stores.{Answered};
 ghost use Rattle.store.specs.Answers.{took_shown};
 ghost use Rattle.store.specs.Drafts.{opened_shown, Numbered, taken_shown, ComesBack};
-ghost use Rattle.model.specs.Calls.{Open, OpenFrom, Put, Remove, Publish, Abandon};
+ghost use Rattle.model.specs.Calls.{Open, OpenFrom, Put, Remove, Union, Merge, Publish, Abandon};
 
 use super::draft::Draft;
 use super::store::Store;
@@ -39,6 +39,25 @@ impl<'a, K: Key, V: Value> Store<'a, K, V> {
         ensures { Answered K.kind V.kind K.bytes V.bytes self.old self.new (Remove draft.now (K.bytes key.now)) (took_shown result) }
     {
         self.remove_at(draft.number(), key)
+    }
+
+    // Joins a published place into a draft; answers the nodes and the entries that it took.
+    pub fn union(&mut self, draft: &Draft, other: u32) -> Result<(usize, usize), Refusal>
+        ensures { Answered K.kind V.kind K.bytes V.bytes self.old self.new (Union draft.now other) (took_shown result) }
+    {
+        self.union_at(draft.number(), other)
+    }
+
+    // Merges a published place into a draft over a published base, which may be the same place; answers the nodes and the entries that it took.
+    pub fn merge(
+        &mut self,
+        draft: &Draft,
+        base: u32,
+        theirs: u32,
+    ) -> Result<(usize, usize), Refusal>
+        ensures { Answered K.kind V.kind K.bytes V.bytes self.old self.new (Merge draft.now base theirs) (took_shown result) }
+    {
+        self.merge_at(draft.number(), base, theirs)
     }
 
     // Makes a draft a published version at its place.

@@ -7,6 +7,7 @@ mod draft;
 mod editing;
 mod ending;
 mod loading;
+mod merging;
 mod opening;
 mod roots;
 mod running;

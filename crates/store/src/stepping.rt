@@ -44,6 +44,14 @@ impl<'a, K: Key, V: Value> Store<'a, K, V> {
                 let (nodes, entries) = self.remove_at(*place, key)?;
                 Ok(Answer::Took(nodes, entries))
             }
+            Call::Union(place, other) => {
+                let (nodes, entries) = self.union_at(*place, *other)?;
+                Ok(Answer::Took(nodes, entries))
+            }
+            Call::Merge(place, base, theirs) => {
+                let (nodes, entries) = self.merge_at(*place, *base, *theirs)?;
+                Ok(Answer::Took(nodes, entries))
+            }
             Call::Publish(place) => {
                 self.publish_at(*place)?;
                 Ok(Answer::Done)
