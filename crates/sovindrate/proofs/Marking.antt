@@ -5,14 +5,14 @@ use Rattle.std.specs.Prelude.{nat_lt, Some}
 use denote.Bor.{Bor}
 use Rattle.kinds.specs.Kinds.{KeyKind, ValueKind}
 use Rattle.kinds.specs.Refusals as refusals
-use Rattle.model.specs.Maps.{Map, put, remove}
+use Rattle.model.specs.Maps.{Map, put, remove, union, merge}
 use Rattle.model.specs.Tries.{crowded}
 use Rattle.model.specs.Images.{image}
 use Rattle.model.specs.Reading.{Verdict, judge, accepted}
 use Rattle.model.specs.Reading as reading
 use Rattle.model.specs.Sharing.{Shared}
 use Rattle.model.specs.Accounts.{Version, Place, Account, nth, empty, draft, published}
-use Rattle.model.specs.Calls.{Outcome, Answer, after, done, took, found, counted, equal, saved, spare, refused, Open, OpenFrom, Put, Remove, Publish, Abandon, Retire, Load, LookUp, Count, Compare, Save, now, named, version, outcome, reply, leave, refuse, result, on_place, on_empty, on_draft, on_published, on_live, on_uncrowded}
+use Rattle.model.specs.Calls.{Outcome, Answer, after, done, took, found, counted, equal, saved, spare, refused, Open, OpenFrom, Put, Remove, Union, Merge, Publish, Abandon, Retire, Load, LookUp, Count, Compare, Save, now, named, both_names, version, outcome, reply, leave, refuse, result, on_place, on_empty, on_draft, on_published, on_live, on_uncrowded}
 use Rattle.store.specs.declared.calls.Call.{Call}
 use Rattle.store.specs.declared.calls.Answer as store
 use Rattle.store.specs.declared.calls.Call.TheVariants as calls
@@ -152,6 +152,14 @@ module _ (K : KeyKind) (V : ValueKind) (a : Account) where
       by_place (draft v) = h v
       by_place (published v) = h v
 
+  still_published : (i : ℕ) (f : Version → Outcome) → ((v : Version) → Still (f v)) → Still (on_published K V a i f)
+  still_published i f h = by_place (nth a.places i)
+    where
+      by_place : (p : Place) → Still (elim p [ empty ↦ refuse K V a 4 | draft v ↦ refuse K V a 4 | published v ↦ f v ])
+      by_place empty = refl
+      by_place (draft v) = refl
+      by_place (published v) = h v
+
   still_length : (v : Version) (room : ℕ) →
       Still (cond (nat_lt room (length (image K V v.settings))) (refuse K V a 12) (reply K V a (saved (image K V v.settings))))
   still_length v room = by_case (nat_lt room (length (image K V v.settings)))
@@ -213,6 +221,19 @@ module _ (K : KeyKind) (V : ValueKind) (a : Account) where
 
   pub removed : (i : ℕ) (k : List ℕ) → Still (outcome K V a (Remove i k))
   removed i k = still_place i _ (still_draft i _ (λ d e. let m : Map = remove K d.settings k in still_result i (d ∷ []) m (edited m) e))
+
+  pub united : (i j : ℕ) → Still (outcome K V a (Union i j))
+  united i j =
+      still_place i _ (still_place j _ (still_published j _ (λ o. still_draft i _ (λ d e.
+      let m : Map = union K V d.settings o.settings in
+      let of : Shared → Version = version K V a m (both_names K V a d.names o.names) in
+      still_uncrowded m (result K V a i (d ∷ (o ∷ [])) m (λ s. draft (of s))) (still_result i (d ∷ (o ∷ [])) m of e)))))
+
+  pub merged : (i b t : ℕ) → Still (outcome K V a (Merge i b t))
+  merged i b t =
+      still_place i _ (still_place b _ (still_place t _ (still_published b _ (λ base. still_published t _ (λ theirs. still_draft i _ (λ d e.
+      let m : Map = merge K V d.settings base.settings theirs.settings in
+      still_uncrowded m (result K V a i (d ∷ (theirs ∷ [])) m (λ s. draft (edited m s))) (still_result i (d ∷ (theirs ∷ [])) m (edited m) e)))))))
 
   -- a load that took leaves a published place, and else each mark as it was
   abbrev pub Loads : ℕ → Outcome → Type 0
@@ -323,6 +344,8 @@ module _ {X Y : Type 0} (K : KeyKind) (V : ValueKind) (kb : X → List ℕ) (vb 
   still_all (calls.OpenFrom i j) q t = opened_from K V a i j ∙ q _ _
   still_all (calls.Put i k v) q t = set_at K V a i (kb k) (vb v)
   still_all (calls.Remove i k) q t = removed K V a i (kb k)
+  still_all (calls.Union i j) q t = united K V a i j
+  still_all (calls.Merge i b x) q t = merged K V a i b x
   still_all (calls.Publish i) q t = published_at K V a i ∙ q _ _
   still_all (calls.Abandon i) q t = abandoned K V a i ∙ q _ _
   still_all (calls.Retire i) q t = retired K V a i ∙ q _ _

@@ -43,7 +43,7 @@ fn bring<K, V>(steps: &[Step<K, V>]) -> Brought {
     all
 }
 
-// An image is a header of 4 bytes, an end of 5, a node of 5 bytes or of 2 for each node of its version, and for each setting one byte more than its key and its value. A version has no more nodes and settings than the tables have cells. Its keys came by puts, one by each, or by loads, fewer than the image has bytes. And its nodes are the root and, at each of eight levels, one for two settings or more.
+// An image is a header of 4 bytes, an end of 5, a node of 5 bytes or of 2 for each node of its version, and for each setting one byte more than its key and its value. A version has no more nodes and settings than the tables have cells. Its keys came by puts, one by each, or by loads, fewer than the image has bytes; unions and merges bring none. And its nodes are the root and, at each of eight levels, one for two settings or more.
 // A save that makes no image is lent as much as one that does, and the buffer has to have that left: so there is one more than there can be images, those that the script saves and one of each place that is live at its end.
 pub fn room_of<K: Key, V: Value>(nodes: usize, entries: usize, steps: &[Step<K, V>]) -> Room {
     let brought = bring(steps);

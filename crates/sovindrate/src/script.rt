@@ -108,6 +108,8 @@ fn call_of<'a>(words: &[&'a str]) -> Result<Call<'a, &'a str, &'a str>, &'static
         ["open", p, q] => Ok(Call::OpenFrom(place(*p)?, place(*q)?)),
         ["put", p, key, value] => Ok(Call::Put(place(*p)?, *key, *value)),
         ["remove", p, key] => Ok(Call::Remove(place(*p)?, *key)),
+        ["union", p, q] => Ok(Call::Union(place(*p)?, place(*q)?)),
+        ["merge", p, base, theirs] => Ok(Call::Merge(place(*p)?, place(*base)?, place(*theirs)?)),
         ["publish", p] => Ok(Call::Publish(place(*p)?)),
         ["abandon", p] => Ok(Call::Abandon(place(*p)?)),
         ["retire", p] => Ok(Call::Retire(place(*p)?)),
@@ -118,6 +120,8 @@ fn call_of<'a>(words: &[&'a str]) -> Result<Call<'a, &'a str, &'a str>, &'static
         ["open", ..] => Err("open P, or open P Q"),
         ["put", ..] => Err("put P KEY VALUE"),
         ["remove", ..] => Err("remove P KEY"),
+        ["union", ..] => Err("union P Q"),
+        ["merge", ..] => Err("merge P BASE THEIRS"),
         ["publish", ..] => Err("publish P"),
         ["abandon", ..] => Err("abandon P"),
         ["retire", ..] => Err("retire P"),
@@ -126,7 +130,7 @@ fn call_of<'a>(words: &[&'a str]) -> Result<Call<'a, &'a str, &'a str>, &'static
         ["compare", ..] => Err("compare P Q"),
         ["free", ..] => Err("free"),
         _ => Err(
-            "a call: open, put, remove, publish, abandon, retire, load, lookup, count, compare, save or free",
+            "a call: open, put, remove, union, merge, publish, abandon, retire, load, lookup, count, compare, save or free",
         ),
     }
 }

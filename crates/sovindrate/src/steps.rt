@@ -50,6 +50,8 @@ fn spell_call<'a, K: Spelled, V: Spelled>(
             (Err(refusal), _) | (_, Err(refusal)) => Ok(Err(refusal)),
         },
         Call::Remove(p, key) => Ok(parse(key)?.map(|key| Call::Remove(p, key))),
+        Call::Union(p, q) => Ok(Ok(Call::Union(p, q))),
+        Call::Merge(p, base, theirs) => Ok(Ok(Call::Merge(p, base, theirs))),
         Call::Publish(p) => Ok(Ok(Call::Publish(p))),
         Call::Abandon(p) => Ok(Ok(Call::Abandon(p))),
         Call::Retire(p) => Ok(Ok(Call::Retire(p))),
