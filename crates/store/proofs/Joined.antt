@@ -52,9 +52,9 @@ module _ {X Y : Type 0} (K : KeyKind) (V : ValueKind) (kb : X → List ℕ) (vb 
       union_undrafted inside inside_too b e h =
           undrafted K V kb vb S (Union i j) tt i f r x on (λ a d. on_published K V a j (λ o. joins_to a d o))
           (λ a rep.
-              let O = at_published K V kb vb S a rep j b e in
-              ap (on_place K V a i) (is_place K V a j _ inside_too ∙ published_is_published K V a j _ O.version O.at
-              ∙ ap (on_draft K V a i) (λ t d. sym (published_is_published K V a j (λ o. joins_to a d o) O.version O.at) t)))
+          let O = at_published K V kb vb S a rep j b e in
+          ap (on_place K V a i) (is_place K V a j _ inside_too ∙ published_is_published K V a j _ O.version O.at
+          ∙ ap (on_draft K V a i) (λ t d. sym (published_is_published K V a j (λ o. joins_to a d o) O.version O.at) t)))
           h
 
     module _ (ours theirs : Branch) (inside : i < 64) (inside_too : j < 64) (at : get_or S.places i Empty ≡ Draft ours) (at_other : get_or S.places j Empty ≡ Published theirs) where
@@ -122,20 +122,20 @@ module _ {X Y : Type 0} (K : KeyKind) (V : ValueKind) (kb : X → List ℕ) (vb 
               theirs_unpublished h =
                   unpublished K V kb vb S (Merge i p t) tt t f r x on (λ a o. on_published K V a p (λ b. on_draft K V a i (λ d. merges_to a d b o)))
                   (λ a rep.
-                      let B = at_published K V kb vb S a rep p base at_base in
-                      is_place K V a i _ inside ∙ is_place K V a p _ base_inside
-                      ∙ ap (on_place K V a t) (published_is_published K V a p _ B.version B.at
-                      ∙ ap (on_published K V a t) (λ u o. sym (published_is_published K V a p (λ b. on_draft K V a i (λ d. merges_to a d b o)) B.version B.at) u)))
+                  let B = at_published K V kb vb S a rep p base at_base in
+                  is_place K V a i _ inside ∙ is_place K V a p _ base_inside
+                  ∙ ap (on_place K V a t) (published_is_published K V a p _ B.version B.at
+                  ∙ ap (on_published K V a t) (λ u o. sym (published_is_published K V a p (λ b. on_draft K V a i (λ d. merges_to a d b o)) B.version B.at) u)))
                   h
 
               pub merge_undrafted : (theirs : Branch) → get_or S.places t Empty ≡ Published theirs → Wanted IsDraft 6 S.places i (Err x) → Answered K V kb vb S S (Merge i p t) (result_shown f r)
               merge_undrafted theirs at_theirs h =
                   undrafted K V kb vb S (Merge i p t) tt i f r x on (λ a d. on_published K V a p (λ b. on_published K V a t (λ o. merges_to a d b o)))
                   (λ a rep.
-                      let B = at_published K V kb vb S a rep p base at_base in
-                      let O = at_published K V kb vb S a rep t theirs at_theirs in
-                      ap (on_place K V a i) (is_place K V a p _ base_inside ∙ is_place K V a t _ theirs_inside ∙ published_is_published K V a p _ B.version B.at ∙ published_is_published K V a t _ O.version O.at
-                      ∙ ap (on_draft K V a i) (λ u d. sym (published_is_published K V a p (λ b. on_published K V a t (λ o. merges_to a d b o)) B.version B.at ∙ published_is_published K V a t (λ o. merges_to a d B.version o) O.version O.at) u)))
+                  let B = at_published K V kb vb S a rep p base at_base in
+                  let O = at_published K V kb vb S a rep t theirs at_theirs in
+                  ap (on_place K V a i) (is_place K V a p _ base_inside ∙ is_place K V a t _ theirs_inside ∙ published_is_published K V a p _ B.version B.at ∙ published_is_published K V a t _ O.version O.at
+                  ∙ ap (on_draft K V a i) (λ u d. sym (published_is_published K V a p (λ b. on_published K V a t (λ o. merges_to a d b o)) B.version B.at ∙ published_is_published K V a t (λ o. merges_to a d B.version o) O.version O.at) u)))
                   h
 
     module _ (ours base theirs : Branch) (inside : i < 64) (base_inside : p < 64) (theirs_inside : t < 64)
