@@ -1,6 +1,7 @@
 -- What is asked of a branch: the value of a key, and how many settings there are. Assumes nothing.
 use Rattle.std.specs.Prelude.{◌≡◌, ℕ, ◌+◌, ◌≤◌, List, length, Some, None, Option}
 use Rattle.kinds.specs.Kinds.{KeyKind}
+use Rattle.model.specs.declared.limits.TheConstants.{MOST_CELLS}
 use Rattle.model.specs.Maps.{look}
 use Rattle.model.specs.Sharing.{Part}
 use Rattle.branches.specs.declared.branch.Branch.{Branch}
@@ -19,7 +20,7 @@ pub record LookedUp {X Y : Type 0} (K : KeyKind) (kb : X → List ℕ) (vb : Y �
 -- a branch is some part of no more settings than a table has entries
 pub record FewPart {X Y : Type 0} (K : KeyKind) (kb : X → List ℕ) (vb : Y → List ℕ) (T : Tables X Y) (b : Branch) (level : ℕ) : Type 0 where
   pub some : SomePart K kb vb T b level
-  pub few : length some.part.settings ≤ 65535
+  pub few : length some.part.settings ≤ MOST_CELLS
 
 -- r is how many settings a branch has, whatever part it is
 pub record Counted {X Y : Type 0} (K : KeyKind) (kb : X → List ℕ) (vb : Y → List ℕ) (T : Tables X Y) (b : Branch) (level r : ℕ) : Type 0 where

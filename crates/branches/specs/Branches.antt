@@ -1,6 +1,7 @@
 -- Branches, and what building one leaves. Assumes nothing.
 use Rattle.std.specs.Prelude.{◌≡◌, ℕ, ◌+◌, ◌-◌, ◌<◌, ◌≤◌, true, List, [], ◌∷◌, ◌++◌, length, Some}
 use Rattle.kinds.specs.Kinds.{KeyKind}
+use Rattle.model.specs.declared.limits.TheConstants.{MOST_CELLS}
 use Rattle.model.specs.Maps.{Map}
 use Rattle.model.specs.Sharing.{Part, Shared, below}
 use Rattle.tables.specs.declared.cells.EntryCell.{EntryCell}
@@ -93,8 +94,8 @@ pub record Stays {X Y : Type 0} (K : KeyKind) (kb : X → List ℕ) (vb : Y → 
   pub part : Part
   pub sits : Sits K kb vb T notes roots in_hand
   pub is : Is T notes b level prefix part
-  pub few : length roots ≤ 65535
-  pub few_entries : length in_hand ≤ 65535
+  pub few : length roots ≤ MOST_CELLS
+  pub few_entries : length in_hand ≤ MOST_CELLS
 
 -- a branch is held once more: as a result that is its part, it is built at no cost
 pub record Kept {X Y : Type 0} (K : KeyKind) (kb : X → List ℕ) (vb : Y → List ℕ) (T : Tables X Y) (b : Branch) (U : Tables X Y) : Type 0 where

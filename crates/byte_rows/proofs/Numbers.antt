@@ -127,3 +127,12 @@ lower_onward a b c h k = grind (arith, nat_tests)
 
 pub lower_or_same : (w : ℕ) (a b : List ℕ) → row_of w a ≡ true → row_of w b ≡ true → lower a b ≡ false → lower b a ≡ false → a ≡ b
 lower_or_same w a b ra rb h k = number_one w a b ra rb (grind (arith, nat_tests))
+
+-- ---- hashes
+
+-- a number modulo 2^32 has 32 bits, and so has one modulo 4
+pub modulo_2_32_fits : (n : ℕ) → n % 2 ^ 32 < 2 ^ 32
+modulo_2_32_fits n = omega arith
+
+pub modulo_4_fits : (n : ℕ) → n % 4 < 2 ^ 32
+modulo_4_fits n = omega arith

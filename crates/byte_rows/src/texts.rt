@@ -69,11 +69,13 @@ pub fn is_text_row(row: &[u8], width: usize) -> bool
     text & (row.len() == width) & filling
 }
 
-// FNV-1a in 32 bits.
+// FNV-1a in 32 bits: each byte in turn is XORed in, and then all is multiplied, modulo 2^32.
 pub fn fnv1a(bytes: &[u8]) -> u32
     ensures { result ≡ fnv bytes.now }
 {
-    bytes.iter().fold(0x811C_9DC5, |hash: u32, b| {
-        (hash ^ u32::from(*b)).wrapping_mul(0x0100_0193)
-    })
+    let mut hash: u32 = 0x811C_9DC5;
+    for byte in bytes {
+        hash = (hash ^ u32::from(*byte)).wrapping_mul(0x0100_0193);
+    }
+    hash
 }

@@ -2,6 +2,7 @@
 use Rattle.std.specs.Prelude.{count_ones, ◌≡◌, ℕ, ◌+◌, ◌<◌, ◌≤◌, Bool, true, false, cond, List, [], ◌∷◌, ◌++◌, map, length, take, drop, is_some, Some, None, Option, Result, MatchResult, IfSome, nat_lt, slice_index, slice_index_or, All}
 use Rattle.std.specs.List.{AllByRecursion}
 use Rattle.kinds.specs.Kinds.{KeyKind}
+use Rattle.model.specs.declared.limits.TheConstants.{MOST_CELLS, MOST_OF_A_HASH}
 use Rattle.model.specs.Maps.{Setting, Map, Rises}
 use Rattle.tables.specs.declared.cells.NodeCell.{NodeCell}
 use Rattle.tables.specs.declared.cells.EntryCell.{EntryCell}
@@ -76,7 +77,7 @@ pub record Keeping {X Y : Type 0} (K : KeyKind) (kb : X → List ℕ) (vb : Y �
   pub in_hand : List ℕ
   pub sits : Sits K kb vb (beside tables es f s) notes roots in_hand
   pub held : All (λ e. 0 < (entry_cell es e).holders) xs
-  pub few_in_hand : length in_hand + length xs ≤ 65535
+  pub few_in_hand : length in_hand + length xs ≤ MOST_CELLS
   pub rowful : Rowful hand (entries_in hand)
   pub room : (count_ones hand.datamap) + length xs ≤ 16
 
@@ -124,6 +125,6 @@ pub record RowEstimate (count : ℕ) (some same : Bool) (c : Estimate) : Type 0 
   pub size : c.size ≡ capped count
   pub ours : c.ours ≡ same
   pub theirs : c.theirs ≡ same
-  pub crowded : c.crowded ≡ nat_lt 16 count
+  pub crowded : c.crowded ≡ nat_lt MOST_OF_A_HASH count
   pub nodes : c.nodes ≡ cond (nat_lt 1 count) (cond same 0 1) 0
   pub entries : c.entries ≡ cond some (cond same 0 1) 0

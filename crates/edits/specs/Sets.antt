@@ -1,6 +1,7 @@
 -- One key of a branch is set: what may be taken for granted, and what it leaves. Assumes nothing.
 use Rattle.std.specs.Prelude.{◌≡◌, ℕ, ◌+◌, ◌*◌, ◌≤◌, Bool, true, false, ◌⊎◌, List, [], ◌∷◌, length, Some, None, Option}
 use Rattle.kinds.specs.Kinds.{KeyKind, ValueKind}
+use Rattle.model.specs.declared.limits.TheConstants.{MOST_CELLS}
 use Rattle.model.specs.Maps.{Setting, Map, Sound, look, same_found}
 use Rattle.model.specs.Sharing.{Part}
 use Rattle.plans.specs.Plans.{edited, crowd, portion, Tally, Told}
@@ -36,7 +37,7 @@ pub record Seen {X Y : Type 0} (K : KeyKind) (V : ValueKind) (kb : X → List �
   pub value_reads : ValueReads V x
   pub led : Led K prefix k
   pub calm : crowd K level (length prefix) source.settings ≡ false
-  pub few : length source.settings ≤ 65535
+  pub few : length source.settings ≤ MOST_CELLS
 
 abbrev pub tally : Estimate → Tally
 tally c = record { size = c.size; ours = c.ours; theirs = c.theirs; crowded = c.crowded; nodes = c.nodes; entries = c.entries }
@@ -67,8 +68,8 @@ pub record Ready {X Y : Type 0} (K : KeyKind) (V : ValueKind) (kb : X → List �
   pub calm : crowd K level (length prefix) (edited K source.settings k x) ≡ false
   pub room : (portion K call level prefix (source ∷ []) (edited K source.settings k x)).new_nodes ≤ T.spare
   pub entry_room : (portion K call level prefix (source ∷ []) (edited K source.settings k x)).new_entries ≤ T.entry_spare
-  pub few_roots : length roots + 16 * level + 16 ≤ 65535
-  pub few_in_hand : length in_hand + 16 * level + 16 ≤ 65535
+  pub few_roots : length roots + 16 * level + 16 ≤ MOST_CELLS
+  pub few_in_hand : length in_hand + 16 * level + 16 ≤ MOST_CELLS
 
 -- in each such case r is the branch of the result, built as the account shares it
 pub record Done {X Y : Type 0} (K : KeyKind) (V : ValueKind) (kb : X → List ℕ) (vb : Y → List ℕ) (T : Tables X Y) (b : Branch) (k : List ℕ) (x : Option (List ℕ)) (level : ℕ) (r : Branch) (U : Tables X Y) : Type 0 where

@@ -6,6 +6,7 @@ ghost use Rattle.edits.specs.Rowing.{RowEstimate};
 ghost use Rattle.edits.specs.Estimates.{Addable, kept_told};
 
 use branches::Branch;
+use model::MOST_OF_A_HASH;
 
 // None, one or more settings; whether the part is ours' and whether it is theirs'; whether too many keys of one hash meet in it; the nodes and the entries that it takes.
 #[derive(Clone, Copy)]
@@ -56,7 +57,7 @@ impl Estimate {
             size: count.min(2),
             ours: same,
             theirs: same,
-            crowded: count > 16,
+            crowded: count > MOST_OF_A_HASH,
             nodes: usize::from(count > 1 && !same),
             entries: usize::from(some && !same),
         }

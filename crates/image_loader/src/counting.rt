@@ -4,6 +4,7 @@ ghost use Rattle.image_loader.specs.Counts.{NodeAt, NodeCounted, IsImage, CellsC
 use super::entries::{entry_size, operands};
 use image_reader::read_maps;
 use kinds::{Key, Value};
+use model::END;
 use tables::{Digit, has_digit};
 
 // So many nodes and entries of an image, and where it goes on after them.
@@ -55,7 +56,7 @@ pub fn count_cells<K: Key, V: Value>(image: &[u8]) -> (usize, usize)
     requires { IsImage K.kind V.kind image.now }
     ensures { CellsCounted K.kind V.kind image.now result.0 result.1 }
 {
-    if image[4] == 0x5A {
+    if image[4] == END {
         return (0, 0);
     }
     let root = count_node::<K, V>(image, 4, 8);

@@ -6,6 +6,7 @@ use super::entries::{build_entry, entry_size, operands};
 use branches::{Branch, assemble, empty_handed, take_next, take_up};
 use image_reader::read_maps;
 use kinds::{Key, Value};
+use model::END;
 use tables::{Digit, Tables, has_digit};
 
 // The collision node at an offset, and where the image goes on.
@@ -70,7 +71,7 @@ pub fn load<K: Key, V: Value>(tables: &mut Tables<K, V>, image: &[u8]) -> Branch
     requires { MayLoad K.kind V.kind K.bytes V.bytes (tables_of tables.old) image.now }
     ensures { Loaded K.kind V.kind K.bytes V.bytes (tables_of tables.old) image.now result (tables_of tables.new) }
 {
-    if image[4] == 0x5A {
+    if image[4] == END {
         return Branch::Nothing;
     }
     let (root, _) = build_node(tables, image, 4, 8);

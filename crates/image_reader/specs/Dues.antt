@@ -1,5 +1,6 @@
 -- Which commands may come, and how one of them is judged. Assumes nothing.
 use Rattle.std.specs.Prelude.{ℕ, zero, suc, ◌+◌, cond, List, [], ◌∷◌, length, take, drop, Some, None, Option, ◌==◌, nat_lt}
+use Rattle.model.specs.declared.commands.TheConstants.{HEADER, NODE, ENTRY, COLLISION, END}
 use Rattle.model.specs.Reading.{Read, fault}
 use Rattle.image_reader.specs.declared.due.Due.{Due}
 use Rattle.image_reader.specs.declared.due.Due.TheVariants.{Header, RootOrEnd, Node, Entry, End}
@@ -10,12 +11,12 @@ only c w b = cond (b == c) (Some w) None
 
 -- how many bytes of operands the command b has, if it is due
 abbrev pub width_of : Due → ℕ → Option ℕ
-width_of Header b = only 0x56 3 b
-width_of RootOrEnd b = cond (b == 0x4E) (Some 4) (only 0x5A 4 b)
-width_of (Node zero) b = only 0x43 1 b
-width_of (Node (suc h)) b = only 0x4E 4 b
-width_of (Entry w) b = only 0x45 w b
-width_of End b = only 0x5A 4 b
+width_of Header b = only HEADER 3 b
+width_of RootOrEnd b = cond (b == NODE) (Some 4) (only END 4 b)
+width_of (Node zero) b = only COLLISION 1 b
+width_of (Node (suc h)) b = only NODE 4 b
+width_of (Entry w) b = only ENTRY w b
+width_of End b = only END 4 b
 
 -- a command at an offset, by how many bytes of operands it has if it is due, and what follows it
 abbrev pub with_operands : Option ℕ → (List ℕ → ℕ → List ℕ → Read) → ℕ → List ℕ → Read

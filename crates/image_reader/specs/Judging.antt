@@ -3,12 +3,13 @@ use Rattle.std.specs.Prelude.{◌≡◌, ℕ, List, Ok, Err, Result}
 use Rattle.kinds.specs.Kinds.{KeyKind, ValueKind}
 use Rattle.kinds.specs.declared.refusal.Refusal.{Refusal}
 use Rattle.kinds.specs.Refusals.{shown, refused_at}
+use Rattle.model.specs.declared.commands.TheConstants.{HEADER}
 use Rattle.model.specs.Maps.{Map}
 use Rattle.model.specs.Reading.{Read, command, body_in, ended, read_root, judge, accepted, refused}
 
 -- a whole image, from its header on
 abbrev pub headed : KeyKind → ValueKind → ℕ → List ℕ → Read
-headed K V = command 0x56 3 (body_in K V)
+headed K V = command HEADER 3 (body_in K V)
 
 -- what follows the header: the root, if there is one, and the end
 abbrev pub rooted : KeyKind → ValueKind → ℕ → List ℕ → Read

@@ -2,16 +2,7 @@
 ghost use Rattle.std.specs.Prelude.{◌≡◌};
 ghost use Rattle.image_reader.specs.Dues.{width_of};
 
-// The commands, by their bytes.
-const HEADER: u8 = 0x56;
-
-const NODE: u8 = 0x4E;
-
-const ENTRY: u8 = 0x45;
-
-const CROWD: u8 = 0x43;
-
-pub const END: u8 = 0x5A;
+use model::{COLLISION, END, ENTRY, HEADER, NODE};
 
 #[derive(Clone, Copy)]
 pub enum Due {
@@ -31,7 +22,7 @@ pub fn due_width(due: Due, byte: u8) -> Option<usize>
     match (due, byte) {
         (Due::Header, HEADER) => Some(3),
         (Due::RootOrEnd, NODE | END) => Some(4),
-        (Due::Node { level: 0 }, CROWD) => Some(1),
+        (Due::Node { level: 0 }, COLLISION) => Some(1),
         (Due::Node { level: 1.. }, NODE) => Some(4),
         (Due::Entry { width }, ENTRY) => Some(width),
         (Due::End, END) => Some(4),

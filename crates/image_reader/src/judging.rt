@@ -1,20 +1,22 @@
 // A whole image, judged.
-ghost use Rattle.std.specs.Prelude.{◌≡◌, [], ◌∷◌, length};
+ghost use Rattle.std.specs.Prelude.{◌≡◌, [], length};
+ghost use Rattle.model.specs.Images.{header};
 ghost use Rattle.model.specs.Reading.{got, end_in};
 ghost use Rattle.image_reader.specs.Judging.{headed, rooted, JudgedAs};
 ghost use Rattle.image_reader.specs.Readers.{Within, Passed};
 
-use super::due::{Due, END};
+use super::due::Due;
 use super::operands::read_count;
 use super::prefix::Prefix;
 use super::reader::{Command, Reader};
 use kinds::{Key, Refusal, Value};
+use model::{EDITION, END};
 
 // The operands of a header of this edition and of these kinds.
 fn own_header<K: Key, V: Value>() -> [u8; 3]
-    ensures { result ≡ 4 ∷ (K.kind.code ∷ (V.kind.code ∷ [])) }
+    ensures { result ≡ header K.kind V.kind }
 {
-    [4, K::code_byte(), V::code_byte()]
+    [EDITION, K::CODE, V::CODE]
 }
 
 impl Reader<'_> {

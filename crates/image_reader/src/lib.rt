@@ -11,3 +11,4 @@ mod reader;
 
 pub use judging::judge;
 pub use operands::{read_maps, read_setting};
+pub use reader::Reader;

@@ -12,6 +12,7 @@ use super::operands::read_maps;
 use super::prefix::Prefix;
 use super::reader::{Command, Reader};
 use kinds::{Key, Refusal, Value};
+use model::MOST_OF_A_HASH;
 
 // Whether so many entries and children are enough: any at the root, and else a child or two entries.
 fn are_enough(level: u8, singles: u32, children: u32) -> bool
@@ -33,9 +34,9 @@ fn are_maps(level: u8, datamap: u16, nodemap: u16) -> bool
 
 // Whether a collision node may have so many entries.
 fn is_crowd(many: u8) -> bool
-    ensures { result ≡ (nat_le 2 many && nat_le many 16) }
+    ensures { result ≡ (nat_le 2 many && nat_le many MOST_OF_A_HASH) }
 {
-    (2..=16).contains(&many)
+    (2..=MOST_OF_A_HASH).contains(&usize::from(many))
 }
 
 impl Reader<'_> {

@@ -28,7 +28,7 @@ pub fn read_count(row: &[u8]) -> u32
 pub fn setting_width<K: Key, V: Value>() -> usize
     ensures { result ≡ K.kind.width + V.kind.width }
 {
-    K::byte_width() + V::byte_width()
+    K::WIDTH + V::WIDTH
 }
 
 // The key and the value of an entry, where both are readable.
@@ -36,6 +36,6 @@ pub fn read_setting<K: Key, V: Value>(row: &[u8]) -> Option<(K, V)>
     requires { length row.now ≡ K.kind.width + V.kind.width }
     ensures { SettingIn K.kind V.kind K.bytes V.bytes row.now result }
 {
-    let (key, value) = row.split_at(K::byte_width());
+    let (key, value) = row.split_at(K::WIDTH);
     Some((K::read(key)?, V::read(value)?))
 }

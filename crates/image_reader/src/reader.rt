@@ -1,5 +1,5 @@
 // The commands of an image, one after another.
-ghost use Rattle.std.specs.Prelude.{◌≡◌, ◌==◌, length};
+ghost use Rattle.std.specs.Prelude.{◌≡◌, ◌==◌, ◌+◌, ◌<◌, ◌≤◌, length, slice_index, slice_range};
 ghost use Rattle.image_reader.specs.Readers.{Within, Commanded};
 
 use super::due::{Due, due_width};
@@ -59,6 +59,26 @@ impl<'a> Reader<'a> {
             byte: *byte,
             operands: &rest[..width],
         })
+    }
+
+    // The byte of the next command, which is there.
+    pub fn next_byte(&self) -> u8
+        requires { self.now.at < length self.now.image.now }
+        ensures { result ≡ slice_index self.now.image.now self.now.at }
+    {
+        self.image[self.at]
+    }
+
+    // The operands of the next command, so many bytes, which are there.
+    pub fn take(&mut self, width: usize) -> &'a [u8]
+        requires { self.old.at + (1 + width) ≤ length self.old.image.now }
+        ensures operands { result.now ≡ slice_range self.old.image.now (self.old.at + 1) (self.old.at + (1 + width)) }
+        ensures onward { self.new.at ≡ self.old.at + (1 + width) }
+        ensures image { self.new.image.now ≡ self.old.image.now }
+    {
+        let (image, from) = (self.image, self.at + 1);
+        self.at = from + width;
+        &image[from..from + width]
     }
 
     // Whether nothing stands after the commands that were read.

@@ -3,6 +3,7 @@ use Rattle.std.specs.Prelude.{◌≡◌, ℕ, zero, suc, ◌+◌, ◌*◌, ◌<�
 use Rattle.std.specs.List.{flat_map}
 use Rattle.byte_rows.specs.Rows.{in_bytes}
 use Rattle.kinds.specs.Kinds.{KeyKind, ValueKind}
+use Rattle.model.specs.declared.commands.TheConstants.{NODE, COLLISION}
 use Rattle.model.specs.Maps.{Map}
 use Rattle.model.specs.Images.{entry}
 use Rattle.model.specs.Sharing.{Part}
@@ -33,8 +34,8 @@ pub record Written {X Y : Type 0} (K : KeyKind) (kb : X → List ℕ) (vb : Y �
 
 -- what a node with so many levels below it begins with: its command, and its two maps or the number of its entries
 abbrev pub head : ℕ → NodeCell → List ℕ
-head zero c = 0x43 ∷ (count_ones c.datamap ∷ [])
-head (suc h) c = 0x4E ∷ (in_bytes 2 c.datamap ++ in_bytes 2 c.nodemap)
+head zero c = COLLISION ∷ (count_ones c.datamap ∷ [])
+head (suc h) c = NODE ∷ (in_bytes 2 c.datamap ++ in_bytes 2 c.nodemap)
 
 -- the entries of a row are held, and a buffer of so many bytes has room for them, from an offset on
 pub record EntriesHaveRoom {X Y : Type 0} (K : KeyKind) (V : ValueKind) (kb : X → List ℕ) (vb : Y → List ℕ) (T : Tables X Y) (row : List ℕ) (at size : ℕ) : Type 0 where

@@ -27,7 +27,7 @@ fn node_length<K: Key, V: Value>(tables: &Tables<K, V>, id: NodeId, level: u8) -
     } else {
         NODE_HEAD
     };
-    let entry = 1 + K::byte_width() + V::byte_width();
+    let entry = 1 + K::WIDTH + V::WIDTH;
     let mut length = head + cell.singles().len() * entry;
     for child in cell.kids() {
         length += node_length(tables, NodeId(*child), level - 1);

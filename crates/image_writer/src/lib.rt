@@ -1,7 +1,6 @@
 // The image of a version, written into a lent buffer.
 #![tactic(auto)]
 
-mod commands;
 mod lengths;
 mod nodes;
 mod putting;

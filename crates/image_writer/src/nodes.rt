@@ -6,10 +6,10 @@ ghost use Rattle.model.specs.Images.{node, root as root_bytes};
 ghost use Rattle.image_writer.specs.Puts.{Puts};
 ghost use Rattle.image_writer.specs.Nodes.{head, EntriesHaveRoom, EntriesWritten, HasRoom, Written};
 
-use super::commands::{COLLISION, NODE};
 use super::putting::{put_byte, put_setting, put_u16};
 use branches::{Branch, setting_of};
 use kinds::{Key, Value};
+use model::{COLLISION, NODE};
 use tables::{EntryId, NodeCell, NodeId, Tables};
 
 // What a node begins with: its two maps, or at the deepest level the number of its entries.

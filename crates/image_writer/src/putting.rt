@@ -4,9 +4,9 @@ ghost use Rattle.byte_rows.specs.Rows.{in_bytes};
 ghost use Rattle.model.specs.Images.{entry};
 ghost use Rattle.image_writer.specs.Puts.{Puts};
 
-use super::commands::ENTRY;
 use byte_rows::write_row;
 use kinds::{Coded, Key, Value};
+use model::ENTRY;
 
 // A row of bytes.
 pub(crate) fn put_row(out: &mut [u8], at: usize, row: &[u8]) -> usize
@@ -48,7 +48,7 @@ fn put_coded<C: Coded>(out: &mut [u8], at: usize, coded: &C) -> usize
     ensures { Puts out.old out.new at (C.bytes coded.now) result }
 {
     coded.write(&mut out[at..]);
-    at + C::byte_width()
+    at + C::WIDTH
 }
 
 // An entry, with its command.

@@ -1,6 +1,6 @@
 -- The three kinds of key. Assumes nothing.
 use Rattle.std.specs.Prelude.{◌*◌, ◌%◌, ◌^◌}
-use Rattle.std.proofs.Common.{arith, lit<, lit≤}
+use Rattle.std.proofs.Common.{lit<, lit≤}
 use Rattle.byte_rows.specs.Rows.{earlier, lower, number, row_of}
 use Rattle.byte_rows.specs.Texts.{fnv, text_row, unfilled}
 use Rattle.byte_rows.proofs.Numbers as numbers
@@ -40,7 +40,7 @@ id_kind = record {
   width_fits = lit≤ tt;
   reads_width = numbers.row_width 4;
   reads_bytes = numbers.row_bytes 4;
-  hash_fits = λ k. omega arith;
+  hash_fits = λ k. numbers.modulo_2_32_fits (number k * 0x9E3779B9);
   before_not_self = numbers.lower_not_self;
   before_onward = numbers.lower_onward;
   before_or_after = numbers.lower_or_same 4;
@@ -59,7 +59,7 @@ bobbin_kind = record {
   width_fits = lit≤ tt;
   reads_width = numbers.row_width 1;
   reads_bytes = numbers.row_bytes 1;
-  hash_fits = λ k. omega arith;
+  hash_fits = λ k. numbers.modulo_4_fits (number k);
   before_not_self = numbers.lower_not_self;
   before_onward = numbers.lower_onward;
   before_or_after = numbers.lower_or_same 1;

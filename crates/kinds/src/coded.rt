@@ -19,18 +19,6 @@ pub trait Coded: Copy {
     // Its meaning.
     ghost bytes: { Self → List ℕ };
 
-    fn code_byte() -> u8
-        ensures { result ≡ CODE }
-    {
-        Self::CODE
-    }
-
-    fn byte_width() -> usize
-        ensures { result ≡ WIDTH }
-    {
-        Self::WIDTH
-    }
-
     // Writes the bytes from the first place of `out` on; where they do not fit, nothing.
     fn write(&self, out: &mut [u8])
         ensures { out.new ≡ written (bytes self.now) out.old };

@@ -1,6 +1,7 @@
 -- The entry of a choice, held or made. Assumes nothing.
 use Rattle.std.specs.Prelude.{◌≡◌, ℕ, ◌<◌, ◌≤◌, List, length, Some, count_ones}
 use Rattle.kinds.specs.Kinds.{KeyKind, ValueKind}
+use Rattle.model.specs.declared.limits.TheConstants.{MOST_CELLS}
 use Rattle.model.specs.Maps.{Setting}
 use Rattle.tables.specs.declared.cells.NodeCell.{NodeCell}
 use Rattle.tables.specs.declared.cells.EntryCell.{EntryCell}
@@ -16,7 +17,7 @@ module _ {X Y : Type 0} (K : KeyKind) (V : ValueKind) (kb : X → List ℕ) (vb 
   -- an entry can be held once more
   pub record Holding (e : ℕ) : Type 0 where
     pub held : 0 < (entry_cell es e).holders
-    pub heap : (cs : List NodeCell) × ((R : List ℕ) × (Entries cs es f s R × ((length R ≤ 65535) × ((length cs ≤ 65535) × ((i : ℕ) → count_ones (cell cs i).datamap ≤ 16)))))
+    pub heap : (cs : List NodeCell) × ((R : List ℕ) × (Entries cs es f s R × ((length R ≤ MOST_CELLS) × ((length cs ≤ MOST_CELLS) × ((i : ℕ) → count_ones (cell cs i).datamap ≤ 16)))))
 
   -- two entries can be read, and there is a free cell for a third
   pub record Joining (e d : ℕ) : Type 0 where

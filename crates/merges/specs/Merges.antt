@@ -2,6 +2,7 @@
 use Rattle.std.specs.Prelude.{◌≡◌, ℕ, ◌+◌, ◌*◌, ◌≤◌, false, List, [], ◌∷◌, length}
 use Rattle.std.specs.List.{AllByRecursion}
 use Rattle.kinds.specs.Kinds.{KeyKind, ValueKind}
+use Rattle.model.specs.declared.limits.TheConstants.{MOST_CELLS}
 use Rattle.model.specs.Maps.{Map, Sound, merge}
 use Rattle.model.specs.Sharing.{Part}
 use Rattle.plans.specs.Plans.{crowd, portion, Told}
@@ -32,9 +33,9 @@ module _ {X Y : Type 0} (K : KeyKind) (V : ValueKind) (kb : X → List ℕ) (vb 
     pub calm : crowd K level (length prefix) mine.settings ≡ false
     pub common_calm : crowd K level (length prefix) common.settings ≡ false
     pub other_calm : crowd K level (length prefix) other.settings ≡ false
-    pub few : length mine.settings ≤ 65535
-    pub common_few : length common.settings ≤ 65535
-    pub other_few : length other.settings ≤ 65535
+    pub few : length mine.settings ≤ MOST_CELLS
+    pub common_few : length common.settings ≤ MOST_CELLS
+    pub other_few : length other.settings ≤ MOST_CELLS
 
   -- what becomes of them
   abbrev pub merged : Met → Map
@@ -55,8 +56,8 @@ module _ {X Y : Type 0} (K : KeyKind) (V : ValueKind) (kb : X → List ℕ) (vb 
     pub led : AllByRecursion (λ s. Led K met.prefix s.key) (merged met)
     pub room : (portion K call level met.prefix (met.mine ∷ (met.other ∷ [])) (merged met)).new_nodes ≤ T.spare
     pub entry_room : (portion K call level met.prefix (met.mine ∷ (met.other ∷ [])) (merged met)).new_entries ≤ T.entry_spare
-    pub few_roots : length met.roots + 16 * level + 16 ≤ 65535
-    pub few_in_hand : length met.in_hand + 16 * level + 16 ≤ 65535
+    pub few_roots : length met.roots + 16 * level + 16 ≤ MOST_CELLS
+    pub few_in_hand : length met.in_hand + 16 * level + 16 ≤ MOST_CELLS
 
   -- in each such case r is the branch of the result, built as the account shares it
   pub record MergeDone (r : Branch) (U : Tables X Y) : Type 0 where

@@ -2,6 +2,7 @@
 use Rattle.std.specs.Prelude.{◌≡◌, ℕ, ◌+◌, ◌<◌, ◌≤◌, true, cond, ◌&&◌, List, [], ◌∷◌, ◌++◌, map, length, take, drop, is_some, replicate, Some, None, Option, IfSome, nat_lt, count_by}
 use Rattle.std.specs.List.{AllByRecursion}
 use Rattle.kinds.specs.Kinds.{KeyKind, ValueKind}
+use Rattle.model.specs.declared.limits.TheConstants.{MOST_OF_A_HASH}
 use Rattle.model.specs.Maps.{Map, look, same_map, merge, Rises, Sound}
 use Rattle.tables.specs.declared.cells.EntryCell.{EntryCell}
 use Rattle.tables.specs.declared.cells.EntryId.{EntryId}
@@ -107,6 +108,6 @@ pub record Tallied (c : Chosen) (e : Estimate) : Type 0 where
   pub size : e.size ≡ capped (length (choices c))
   pub ours : e.ours ≡ c.ours
   pub theirs : e.theirs ≡ c.theirs
-  pub crowded : e.crowded ≡ nat_lt 16 (length (choices c))
+  pub crowded : e.crowded ≡ nat_lt MOST_OF_A_HASH (length (choices c))
   pub nodes : e.nodes ≡ cond (nat_lt 1 (length (choices c))) (cond c.ours 0 (cond c.theirs 0 1)) 0
   pub entries : e.entries ≡ c.new

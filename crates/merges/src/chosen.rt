@@ -7,6 +7,7 @@ use super::choices::{Choice, Decision, decide};
 use branches::setting_of;
 use edits::{Estimate, split_row};
 use kinds::{Key, Value};
+use model::MOST_OF_A_HASH;
 use std::cmp::Ordering;
 use tables::{EntryId, EntryTable};
 
@@ -69,7 +70,7 @@ impl Chosen {
             size: count.min(2),
             ours: self.ours,
             theirs: self.theirs,
-            crowded: count > 16,
+            crowded: count > MOST_OF_A_HASH,
             nodes: usize::from(count > 1 && !self.ours && !self.theirs),
             entries: self.new,
         }

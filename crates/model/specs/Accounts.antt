@@ -1,6 +1,7 @@
 -- The plain account of a store: places with their versions, and no cell. Assumes nothing.
 use Rattle.std.specs.Prelude.{ℕ, zero, suc, ◌+◌, ◌-◌, Bool, false, cond, ◌&&◌, ◌||◌, List, [], ◌∷◌, map, replicate, Option, ◌==◌}
 use Rattle.byte_rows.specs.Rows.{same}
+use Rattle.model.specs.declared.limits.TheConstants.{PLACES}
 use Rattle.model.specs.Maps.{Map}
 use Rattle.model.specs.Tries.{concat}
 use Rattle.model.specs.Sharing.{Marked, Part}
@@ -27,7 +28,7 @@ pub record Account : Type 0 where
 
 -- a new store, with 64 empty places
 abbrev pub fresh : ℕ → ℕ → Account
-fresh n e = record { calls = 0; node_cells = n; entry_cells = e; places = replicate 64 empty }
+fresh n e = record { calls = 0; node_cells = n; entry_cells = e; places = replicate PLACES empty }
 
 abbrev pub nth : List Place → ℕ → Place
 nth [] i = empty

@@ -3,6 +3,7 @@ use Rattle.std.specs.Prelude.{ℕ, ◌+◌, Bool, cond, ◌&&◌, List, [], ◌�
 use Rattle.kinds.specs.Kinds.{KeyKind, ValueKind}
 use Rattle.kinds.specs.Refusals.{Refused}
 use Rattle.kinds.specs.Refusals as refusals
+use Rattle.model.specs.declared.limits.TheConstants.{PLACES}
 use Rattle.model.specs.Maps.{Map, look, put, remove, union, merge, same_map}
 use Rattle.model.specs.Tries.{crowded}
 use Rattle.model.specs.Images.{image}
@@ -69,7 +70,7 @@ module _ (K : KeyKind) (V : ValueKind) (a : Account) where
   -- ---- judgement
 
   abbrev pub on_place : ℕ → Outcome → Outcome
-  on_place i o = cond (nat_lt 63 i) (refuse 3) o
+  on_place i o = cond (nat_le PLACES i) (refuse 3) o
 
   abbrev pub on_live : ℕ → (Version → Outcome) → Outcome
   on_live i f = elim (at i) [ empty ↦ refuse 4 | draft v ↦ f v | published v ↦ f v ]

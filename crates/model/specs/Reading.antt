@@ -2,9 +2,11 @@
 use Rattle.std.specs.Prelude.{◌≡◌, ℕ, zero, suc, ◌+◌, ◌/◌, ◌%◌, ◌^◌, Bool, true, cond, ◌&&◌, ◌||◌, List, [], ◌∷◌, ◌++◌, length, take, drop, ◌==◌, bit_and, nat_eq, nat_le, nat_lt}
 use Rattle.byte_rows.specs.Rows.{byte_row, number, same}
 use Rattle.kinds.specs.Kinds.{KeyKind, ValueKind}
+use Rattle.model.specs.declared.commands.TheConstants.{HEADER, NODE, ENTRY, COLLISION, END}
+use Rattle.model.specs.declared.limits.TheConstants.{MOST_OF_A_HASH}
 use Rattle.model.specs.Maps.{Setting, Map, insert}
 use Rattle.model.specs.Tries.{filter, sixteen, leads, Lawful}
-use Rattle.model.specs.Images.{image}
+use Rattle.model.specs.Images.{header, image}
 
 -- what reading some commands gives
 pub data Read : Type 0 where
@@ -44,7 +46,7 @@ entry_in K V ok at w to rest =
 
 -- an entry whose key has to pass a test
 abbrev pub read_entry : KeyKind → ValueKind → (List ℕ → Bool) → ℕ → List ℕ → Read
-read_entry K V ok at bs = command 0x45 (K.width + V.width) (entry_in K V ok at) at bs
+read_entry K V ok at bs = command ENTRY (K.width + V.width) (entry_in K V ok at) at bs
 
 -- the setting that a reading begins with, if any, and what to read after it
 abbrev pub with_first : ℕ → Read → (Setting → ℕ → List ℕ → Read) → Read
@@ -72,13 +74,13 @@ read_parts K V child h p at «data» nodes to rest =
 
 -- the entries of a collision node with a count
 abbrev pub read_crowd : KeyKind → ValueKind → List ℕ → ℕ → ℕ → ℕ → List ℕ → Read
-read_crowd K V p at n to rest = cond (nat_le 2 n && nat_le n 16) (rising K V p n (λ k. true) to rest) (fault 9 at)
+read_crowd K V p at n to rest = cond (nat_le 2 n && nat_le n MOST_OF_A_HASH) (rising K V p n (λ k. true) to rest) (fault 9 at)
 
 -- a node with h levels below it, at a prefix
 abbrev pub read_node : KeyKind → ValueKind → ℕ → List ℕ → ℕ → List ℕ → Read
-read_node K V zero p at bs = command 0x43 1 (λ w. read_crowd K V p at (number w)) at bs
+read_node K V zero p at bs = command COLLISION 1 (λ w. read_crowd K V p at (number w)) at bs
 read_node K V (suc h) p at bs =
-    command 0x4E 4 (λ w. read_parts K V (read_node K V h) h p at (number (take 2 w)) (number (drop 2 w))) at bs
+    command NODE 4 (λ w. read_parts K V (read_node K V h) h p at (number (take 2 w)) (number (drop 2 w))) at bs
 
 -- the map that an image is of, or the number of refusal and the offset
 pub data Verdict : Type 0 where
@@ -93,7 +95,7 @@ gather K (s ∷ ss) = insert K s (gather K ss)
 -- the root node, if there is one
 abbrev pub read_root : KeyKind → ValueKind → ℕ → List ℕ → Read
 read_root K V at [] = got [] at []
-read_root K V at (b ∷ bs) = cond (b == 0x4E) (read_node K V 8 [] at (b ∷ bs)) (got [] at (b ∷ bs))
+read_root K V at (b ∷ bs) = cond (b == NODE) (read_node K V 8 [] at (b ∷ bs)) (got [] at (b ∷ bs))
 
 -- the end, with the count n, and nothing after it
 abbrev pub end_in : ℕ → ℕ → List ℕ → ℕ → List ℕ → Read
@@ -101,7 +103,7 @@ end_in n at w to rest = cond (number w == n) (cond (length rest == 0) (got [] to
 
 -- the end, after so many entries
 abbrev pub read_end : ℕ → ℕ → List ℕ → Read
-read_end n at bs = command 0x5A 4 (end_in n at) at bs
+read_end n at bs = command END 4 (end_in n at) at bs
 
 -- after the root's settings, the end with their number
 abbrev pub ended : Read → Read
@@ -110,11 +112,11 @@ ended (fault n at) = fault n at
 
 -- what follows a header
 abbrev pub body_in : KeyKind → ValueKind → List ℕ → ℕ → List ℕ → Read
-body_in K V w to rest = cond (same w (4 ∷ (K.code ∷ (V.code ∷ [])))) (ended (read_root K V to rest)) (fault 7 0)
+body_in K V w to rest = cond (same w (header K V)) (ended (read_root K V to rest)) (fault 7 0)
 
 -- a whole image
 abbrev pub read_whole : KeyKind → ValueKind → List ℕ → Read
-read_whole K V bs = command 0x56 3 (body_in K V) 0 bs
+read_whole K V bs = command HEADER 3 (body_in K V) 0 bs
 
 abbrev pub verdict : KeyKind → Read → Verdict
 verdict K (got xs at left) = accepted (gather K xs)

@@ -3,6 +3,7 @@ use Rattle.std.specs.Prelude.{◌≡◌, ℕ, ◌+◌, ◌≤◌, true, List, []
 use mathlib.Core.List.{Memᴰ}
 use Rattle.byte_rows.specs.Rows.{byte_row}
 use Rattle.kinds.specs.Kinds.{KeyKind, ValueKind}
+use Rattle.model.specs.declared.limits.TheConstants.{MOST_CELLS}
 use Rattle.model.specs.Maps.{look}
 use Rattle.model.specs.Tries.{has_node, Lawful}
 use Rattle.model.specs.Images.{image}
@@ -36,8 +37,8 @@ Made K V Free = Unit {0}
 pub record Reached (K : KeyKind) (V : ValueKind) (a : Account) : Type 0 where
   pub nodes : ℕ
   pub entries : ℕ
-  pub few_nodes : nodes ≤ 65535
-  pub few_entries : entries ≤ 65535
+  pub few_nodes : nodes ≤ MOST_CELLS
+  pub few_entries : entries ≤ MOST_CELLS
   pub calls : List Call
   pub all_made : (c : Call) → Memᴰ c calls → Made K V c
   pub comes : run K V (fresh nodes entries) calls ≡ a

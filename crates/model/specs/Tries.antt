@@ -2,6 +2,7 @@
 use Rattle.std.specs.Prelude.{ℕ, ◌+◌, ◌/◌, ◌%◌, ◌^◌, ◌<◌, ◌≤◌, Bool, true, false, cond, ◌&&◌, ◌||◌, List, [], ◌∷◌, ◌++◌, map, length, ◌==◌, nat_eq, nat_le, nat_lt}
 use Rattle.std.specs.List.{AllByRecursion}
 use Rattle.kinds.specs.Kinds.{KeyKind, ValueKind}
+use Rattle.model.specs.declared.limits.TheConstants.{MOST_OF_A_HASH}
 use Rattle.model.specs.Maps.{Map, Rises, Readable}
 
 abbrev pub filter : {A : Type 0} → (A → Bool) → List A → List A
@@ -64,7 +65,7 @@ of_hash K m x = filter (λ s. nat_eq (K.hash s.key) x) m
 -- more than 16 keys of m have the hash of one of some settings
 abbrev pub crowded_at : KeyKind → Map → Map → Bool
 crowded_at K m [] = false
-crowded_at K m (s ∷ rest) = nat_lt 16 (length (of_hash K m (K.hash s.key))) || crowded_at K m rest
+crowded_at K m (s ∷ rest) = nat_lt MOST_OF_A_HASH (length (of_hash K m (K.hash s.key))) || crowded_at K m rest
 
 -- more than 16 keys have one hash
 abbrev pub crowded : KeyKind → Map → Bool
@@ -74,7 +75,7 @@ crowded K m = crowded_at K m m
 
 -- at most 16 settings of one hash
 abbrev pub Uncrowded : KeyKind → Map → Type 0
-Uncrowded K m = (x : ℕ) → length (of_hash K m x) ≤ 16
+Uncrowded K m = (x : ℕ) → length (of_hash K m x) ≤ MOST_OF_A_HASH
 
 pub record Lawful (K : KeyKind) (V : ValueKind) (m : Map) : Type 0 where
   pub rises : Rises K m

@@ -8,7 +8,12 @@ ghost use Rattle.model.specs.Maps.{LookUpsSayAll, PutSetsOneKey, RemoveClearsOne
 ghost use Rattle.model.specs.Reading.{ImagesReadBack, OnlyImagesAreAccepted, EqualImagesAreOfEqualMaps};
 ghost use Rattle.model.specs.Runs.{LiveMapsAreLawful, MarkedNodesAreTheTrie, MarkedEntriesAreTheKeys, MarksAreNumbersOfCalls, HeldThingsCanBeListed, TablesHoldAll, EqualImagesMeanEqualMaps, FreeIsWhatNoVersionHolds, SameNamesMeanOneImage, MergeIsSymmetric};
 
+mod commands;
+mod limits;
+
+pub use commands::{COLLISION, EDITION, END, ENTRY, HEADER, NODE};
 use kinds::{Key, Value};
+pub use limits::{MOST_CELLS, MOST_OF_A_HASH, PLACES};
 
 // Look-ups say all of a map; what is found after put, remove, union and merge; union is a join, and merge favours no side.
 pub fn maps_stand<K: Key, V: Value>()

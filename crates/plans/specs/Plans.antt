@@ -1,6 +1,7 @@
 -- What an edit of one or two sources makes of a part, digit by digit, in marks and in numbers. Assumes nothing.
 use Rattle.std.specs.Prelude.{◌≡◌, ℕ, zero, suc, ◌+◌, Bool, true, false, cond, ◌&&◌, ◌||◌, List, [], ◌∷◌, length, Some, None, Option, nat_lt}
 use Rattle.kinds.specs.Kinds.{KeyKind}
+use Rattle.model.specs.declared.limits.TheConstants.{MOST_OF_A_HASH}
 use Rattle.model.specs.Maps.{Map, put, remove, same_map}
 use Rattle.model.specs.Tries.{at_digit, sixteen}
 use Rattle.model.specs.Sharing.{Part, Shared, no_share, entry_from, share}
@@ -35,7 +36,7 @@ bushy h m = nat_lt (cond (nat_lt h 8) 1 0) (length m)
 
 -- some collision node of a part, h levels below it, has more than 16 entries
 abbrev pub crowd : KeyKind → ℕ → ℕ → Map → Bool
-crowd K zero d m = nat_lt 16 (length m)
+crowd K zero d m = nat_lt MOST_OF_A_HASH (length m)
 crowd K (suc h) d m = some (λ g. crowd K h (suc d) (at_digit K d m g)) sixteen
 
 -- what a result's part shares as a branch of the node above: nothing, one entry, or a node

@@ -1,10 +1,11 @@
 -- Marks beside the places of an account. Assumes nothing.
 use Rattle.std.proofs.Common.{◌≡◌, ℕ, zero, suc, Bool, true, false, List, [], ◌∷◌, map, length, get_or, set, None, sym, refl, subst, ◌⊎◌, inl, inr, ◌≤◌, ap, ◌∙◌, arith, cond}
 use Rattle.std.proofs.lemmas.List.{map-set, length-map}
-use Rattle.std.specs.Prelude.{nat_lt, Some}
+use Rattle.std.specs.Prelude.{nat_le, nat_lt, Some}
 use denote.Bor.{Bor}
 use Rattle.kinds.specs.Kinds.{KeyKind, ValueKind}
 use Rattle.kinds.specs.Refusals as refusals
+use Rattle.model.specs.declared.limits.TheConstants.{PLACES}
 use Rattle.model.specs.Maps.{Map, put, remove, union, merge}
 use Rattle.model.specs.Tries.{crowded}
 use Rattle.model.specs.Images.{image}
@@ -95,14 +96,14 @@ module _ (K : KeyKind) (V : ValueKind) (a : Account) where
   Moves i m o = left o ≡ on_done o.answer (set marks i m) marks
 
   still_place : (i : ℕ) (o : Outcome) → Still o → Still (on_place K V a i o)
-  still_place i o h = by_case (nat_lt 63 i)
+  still_place i o h = by_case (nat_le PLACES i)
     where
       by_case : (b : Bool) → Still (cond b (refuse K V a 3) o)
       by_case true = refl
       by_case false = h
 
   moves_place : (i j : ℕ) (m : Mark) (o : Outcome) → Moves j m o → Moves j m (on_place K V a i o)
-  moves_place i j m o h = by_case (nat_lt 63 i)
+  moves_place i j m o h = by_case (nat_le PLACES i)
     where
       by_case : (b : Bool) → Moves j m (cond b (refuse K V a 3) o)
       by_case true = refl
@@ -240,7 +241,7 @@ module _ (K : KeyKind) (V : ValueKind) (a : Account) where
   Loads i o = left o ≡ on_took o.answer (set marks i Published) marks
 
   loads_place : (i : ℕ) (o : Outcome) → Loads i o → Loads i (on_place K V a i o)
-  loads_place i o h = by_case (nat_lt 63 i)
+  loads_place i o h = by_case (nat_le PLACES i)
     where
       by_case : (b : Bool) → Loads i (cond b (refuse K V a 3) o)
       by_case true = refl

@@ -2,6 +2,7 @@
 use Rattle.std.proofs.Common.{◌≡◌, ℕ, ◌+◌, true, false, ◌&&◌, List, ◌∷◌, ◌++◌, length, take, drop, sym, ap, ◌∙◌, ap₂, arith, length-append}
 use Rattle.std.proofs.Math.Seq.{take-append_seam, drop-append_seam}
 use Rattle.kinds.specs.Kinds.{KeyKind, ValueKind}
+use Rattle.model.specs.declared.commands.TheConstants.{HEADER, NODE, ENTRY, COLLISION, END}
 use Rattle.sovindrate.specs.declared.commands.Command.TheVariants.{Header, Node, Entry, Crowd, End}
 use Rattle.sovindrate.specs.Commands.{BeginWithNone}
 
@@ -9,12 +10,12 @@ use Rattle.sovindrate.specs.Commands.{BeginWithNone}
 abbrev NoSetting : {X Y : Type 0} → (X → List ℕ) → (Y → List ℕ) → List ℕ → Type 0
 NoSetting {X} {Y} kb vb bs = (x : X) (y : Y) (rest : List ℕ) → bs ≡ (kb x ++ vb y) ++ rest → ⊥
 
-no_entry : {X Y : Type 0} (kb : X → List ℕ) (vb : Y → List ℕ) (bs : List ℕ) → NoSetting kb vb bs → BeginWithNone kb vb (0x45 ∷ bs)
-no_entry kb vb bs none (Header edition key value) rest e = let z : ◌≡◌ {A = ℕ} 0x45 0x56 = cc in omega arith
-no_entry kb vb bs none (Node «data» nodes) rest e = let z : ◌≡◌ {A = ℕ} 0x45 0x4E = cc in omega arith
+no_entry : {X Y : Type 0} (kb : X → List ℕ) (vb : Y → List ℕ) (bs : List ℕ) → NoSetting kb vb bs → BeginWithNone kb vb (ENTRY ∷ bs)
+no_entry kb vb bs none (Header edition key value) rest e = let z : ◌≡◌ {A = ℕ} ENTRY HEADER = cc in omega arith
+no_entry kb vb bs none (Node «data» nodes) rest e = let z : ◌≡◌ {A = ℕ} ENTRY NODE = cc in omega arith
 no_entry kb vb bs none (Entry x y) rest e = none x y rest cc
-no_entry kb vb bs none (Crowd entries) rest e = let z : ◌≡◌ {A = ℕ} 0x45 0x43 = cc in omega arith
-no_entry kb vb bs none (End entries) rest e = let z : ◌≡◌ {A = ℕ} 0x45 0x5A = cc in omega arith
+no_entry kb vb bs none (Crowd entries) rest e = let z : ◌≡◌ {A = ℕ} ENTRY COLLISION = cc in omega arith
+no_entry kb vb bs none (End entries) rest e = let z : ◌≡◌ {A = ℕ} ENTRY END = cc in omega arith
 
 module _ {X Y : Type 0} (K : KeyKind) (V : ValueKind) (kb : X → List ℕ) (vb : Y → List ℕ) (keys : (x : X) → K.readable (kb x) ≡ true) (values : (y : Y) → V.readable (vb y) ≡ true) where
   wide : (x : X) (y : Y) → length (kb x ++ vb y) ≡ K.width + V.width
@@ -29,7 +30,7 @@ module _ {X Y : Type 0} (K : KeyKind) (V : ValueKind) (kb : X → List ℕ) (vb 
       (ap (λ n. drop n (kb x ++ vb y)) (sym w) ∙ drop-append_seam (kb x) (vb y))
       ∙ ap₂ (λ a b. a && b) (keys x) (values y)
 
-  pub unread : (bs row : List ℕ) → row ≡ take (K.width + V.width) bs → (K.readable (take K.width row) && V.readable (drop K.width row)) ≡ false → BeginWithNone kb vb (0x45 ∷ bs)
+  pub unread : (bs row : List ℕ) → row ≡ take (K.width + V.width) bs → (K.readable (take K.width row) && V.readable (drop K.width row)) ≡ false → BeginWithNone kb vb (ENTRY ∷ bs)
   unread bs row is bad = no_entry kb vb bs (λ x y rest e.
       let same : row ≡ kb x ++ vb y = is ∙ (ap₂ take (sym (wide x y)) e ∙ take-append_seam (kb x ++ vb y) rest) in
       let good : (K.readable (take K.width row) && V.readable (drop K.width row)) ≡ true = ap (λ r. K.readable (take K.width r) && V.readable (drop K.width r)) same ∙ both x y in

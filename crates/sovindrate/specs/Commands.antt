@@ -1,17 +1,18 @@
 -- The commands that an image has, by their bytes. Assumes nothing.
 use Rattle.std.specs.Prelude.{◌≡◌, ℕ, ◌+◌, List, [], ◌∷◌, ◌++◌, length}
 use Rattle.byte_rows.specs.Rows.{in_bytes}
+use Rattle.model.specs.declared.commands.TheConstants.{HEADER, NODE, ENTRY, COLLISION, END}
 use Rattle.sovindrate.specs.declared.commands.Command.{Command}
 use Rattle.sovindrate.specs.declared.commands.Placed.{Placed}
 use Rattle.sovindrate.specs.declared.commands.Command.TheVariants.{Header, Node, Entry, Crowd, End}
 
 -- a command and its operands
 abbrev pub command_bytes : {X Y : Type 0} → (X → List ℕ) → (Y → List ℕ) → Command X Y → List ℕ
-command_bytes kb vb (Header edition key value) = 0x56 ∷ (edition ∷ (key ∷ (value ∷ [])))
-command_bytes kb vb (Node «data» nodes) = 0x4E ∷ (in_bytes 2 «data» ++ in_bytes 2 nodes)
-command_bytes kb vb (Entry x y) = 0x45 ∷ (kb x ++ vb y)
-command_bytes kb vb (Crowd entries) = 0x43 ∷ (entries ∷ [])
-command_bytes kb vb (End entries) = 0x5A ∷ in_bytes 4 entries
+command_bytes kb vb (Header edition key value) = HEADER ∷ (edition ∷ (key ∷ (value ∷ [])))
+command_bytes kb vb (Node «data» nodes) = NODE ∷ (in_bytes 2 «data» ++ in_bytes 2 nodes)
+command_bytes kb vb (Entry x y) = ENTRY ∷ (kb x ++ vb y)
+command_bytes kb vb (Crowd entries) = COLLISION ∷ (entries ∷ [])
+command_bytes kb vb (End entries) = END ∷ in_bytes 4 entries
 
 -- bytes begin with no command
 abbrev pub BeginWithNone : {X Y : Type 0} → (X → List ℕ) → (Y → List ℕ) → List ℕ → Type 0

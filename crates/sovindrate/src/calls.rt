@@ -4,6 +4,7 @@ ghost use Rattle.sovindrate.specs.Closing.{account_calls};
 
 use super::script::{Ask, Target};
 use super::steps::Step;
+use model::PLACES;
 use std::alloc::{AllocError, Global};
 use store::Call;
 
@@ -42,7 +43,7 @@ pub fn ask_account<'a, K: Copy, V: Copy>(
     ensures asked { OnOk result (calls.new.items ≡ calls.old.items ++ account_calls room) }
     ensures kept { take (length calls.old.items) calls.new.items ≡ calls.old.items }
 {
-    for place in 0..64 {
+    for place in 0..PLACES as u32 {
         calls.push(Call::Count(place))?;
         calls.push(Call::Save(place, room))?;
     }

@@ -4,18 +4,8 @@ ghost use Rattle.sovindrate.specs.Commands.{command_bytes, BeginWithNone, Listed
 
 use image_reader::read_setting;
 use kinds::{Key, Value};
+use model::{COLLISION, END, ENTRY, HEADER, NODE};
 use std::alloc::{AllocError, Global};
-
-// The commands, by their bytes.
-const HEADER: u8 = 0x56;
-
-const NODE: u8 = 0x4E;
-
-const ENTRY: u8 = 0x45;
-
-const CROWD: u8 = 0x43;
-
-const END: u8 = 0x5A;
 
 #[derive(Clone, Copy)]
 pub enum Command<K, V> {
@@ -52,7 +42,7 @@ pub struct Placed<K, V> {
 fn split_entry<K: Key, V: Value>(bytes: &[u8]) -> Option<(Command<K, V>, &[u8])>
     ensures { MatchOption result (BeginWithNone K.bytes V.bytes (ENTRY ∷ bytes.now)) (λ split. ENTRY ∷ bytes.now ≡ command_bytes K.bytes V.bytes split.0 ++ split.1.now) }
 {
-    let (setting, rest) = bytes.split_at_checked(K::byte_width() + V::byte_width())?;
+    let (setting, rest) = bytes.split_at_checked(K::WIDTH + V::WIDTH)?;
     let (key, value) = read_setting::<K, V>(setting)?;
     Some((Command::Entry { key, value }, rest))
 }
@@ -76,7 +66,7 @@ pub fn split_command<K: Key, V: Value>(bytes: &[u8]) -> Option<(Command<K, V>, &
             Some((Command::Node { data_map, node_map }, rest))
         }
         [ENTRY, rest @ ..] => split_entry(rest),
-        [CROWD, entries, rest @ ..] => Some((Command::Crowd { entries: *entries }, rest)),
+        [COLLISION, entries, rest @ ..] => Some((Command::Crowd { entries: *entries }, rest)),
         [END, a, b, c, d, rest @ ..] => {
             let entries = u32::from_be_bytes([*a, *b, *c, *d]);
             Some((Command::End { entries }, rest))

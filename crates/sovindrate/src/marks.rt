@@ -4,6 +4,7 @@ ghost use Rattle.model.specs.Accounts.{Account, fresh, nth};
 ghost use Rattle.sovindrate.specs.Marks.{Tell, Follow, mark_of};
 
 use kinds::{Key, Value};
+use model::PLACES;
 use std::fmt;
 use store::{Answer, Call};
 
@@ -26,7 +27,7 @@ impl fmt::Display for Mark {
 
 #[derive(Clone, Copy)]
 pub struct Marks {
-    places: [Mark; 64],
+    places: [Mark; PLACES],
 }
 
 impl Marks {
@@ -35,14 +36,14 @@ impl Marks {
         ensures { (n e : ℕ) → Tell result.places (fresh n e) }
     {
         Marks {
-            places: [Mark::Empty; 64],
+            places: [Mark::Empty; PLACES],
         }
     }
 
     pub fn at(&self, number: u32) -> Mark
         ensures { (a : Account) → Tell self.now.places a → result ≡ mark_of (nth a.places number) }
     {
-        if number < 64 {
+        if (number as usize) < PLACES {
             self.places[number as usize]
         } else {
             Mark::Empty
@@ -52,7 +53,7 @@ impl Marks {
     fn set(&mut self, place: u32, mark: Mark)
         ensures { self.new.places ≡ slice_set self.old.places place mark }
     {
-        if place < 64 {
+        if (place as usize) < PLACES {
             self.places[place as usize] = mark;
         }
     }

@@ -2,6 +2,7 @@
 use super::script::Ask;
 use super::steps::Step;
 use kinds::{Key, Value};
+use model::PLACES;
 use store::Call;
 
 #[derive(Clone, Copy)]
@@ -56,7 +57,7 @@ pub fn room_of<K: Key, V: Value>(nodes: usize, entries: usize, steps: &[Step<K, 
         .saturating_add(9);
     let images = brought
         .saves
-        .saturating_add(brought.places.min(64))
+        .saturating_add(brought.places.min(PLACES))
         .saturating_add(1);
     Room {
         image,

@@ -48,7 +48,7 @@ module _ {X Y : Type 0} (K : KeyKind) (V : ValueKind) (kb : X → List ℕ) (vb 
   source_held a rep j b e = let s = at_published K V kb vb S a rep j b e in root_is_held S.tables rep.notes b s.version s.is
 
   pub few_roots : (a : Account) → Represents K V kb vb S a → length (owners S.places) ≤ 65535
-  few_roots a rep = few _ _ (owners_few S.places) rep.sixty_four
+  few_roots a rep = few _ _ (owners_few S.places) rep.all_places
     where
       few : (m n : ℕ) → m ≤ n → n ≡ 64 → m ≤ 65535
       few m n h e = omega arith

@@ -79,7 +79,7 @@ module _ {X Y : Type 0} {K : KeyKind} {V : ValueKind} {kb : X → List ℕ} {vb 
               let B = done.built (edit_ready o started) in
               let old : (j : ℕ) → occ j (node_of r ++ owners S.places) ≡ occ j (node_of b ++ (node_of r ++ owners (set S.places i Empty))) = λ j.
               as_often _ _ _ _ _ _ _ _ (occ_append j (node_of r) (owners S.places)) (occ_append j (node_of b) (node_of r ++ owners (set S.places i Empty))) (occ_append j (node_of r) (owners (set S.places i Empty)))
-              (subst (λ (z : Spot). occ j (owners (set S.places i Empty)) + occ j (root_of z) ≡ occ j (owners S.places) + occ j (root_of Empty)) m.at (owners_set j S.places i Empty (omega (arith, started.1.sixty_four)))) (occ_nil j) in
+              (subst (λ (z : Spot). occ j (owners (set S.places i Empty)) + occ j (root_of z) ≡ occ j (owners S.places) + occ j (root_of Empty)) m.at (owners_set j S.places i Empty (omega (arith, started.1.all_places)))) (occ_nil j) in
               ((_, nodes_same U.nodes U.free U.spare _ _ old B.sits.nodes), ((_, B.sits.entries), B.sits.entryless))
 
           pub edit_built : (W : Tables X Y) → GivenUp (node_of b) U W → Answered K V kb vb S (record { tables = W; places = set S.places i (Draft r) }) (set_call i k x) (took c.nodes c.entries)

@@ -32,7 +32,7 @@ module _ {X Y : Type 0} (K : KeyKind) (V : ValueKind) (kb : X → List ℕ) (vb 
   root_apart a rep h s e =
       nodes_same S.tables.nodes S.tables.free S.tables.spare (owners S.places) (root_of s ++ owners (set S.places i Empty))
       (λ k. apart_often _ _ _ _ _
-      (subst (λ (z : Spot). occ k (owners (set S.places i Empty)) + occ k (root_of z) ≡ occ k (owners S.places) + occ k (root_of Empty)) e (owners_set k S.places i Empty (omega (arith, rep.sixty_four))))
+      (subst (λ (z : Spot). occ k (owners (set S.places i Empty)) + occ k (root_of z) ≡ occ k (owners S.places) + occ k (root_of Empty)) e (owners_set k S.places i Empty (omega (arith, rep.all_places))))
       (occ_nil k) (occ_append k (root_of s) (owners (set S.places i Empty)))) rep.sits.nodes
 
   pub live_apart : (b : Branch) → Started K V kb vb S → i < 64 → IsLive (get_or S.places i Empty) b → (R : List ℕ) × Nodes S.tables.nodes S.tables.free S.tables.spare (node_of b ++ R)

@@ -85,7 +85,7 @@ module _ {X Y : Type 0} (K : KeyKind) (V : ValueKind) (kb : X → List ℕ) (vb 
         entry_early = λ e h. absurd (entry_free e h);
         long = F.nodes_long;
         entry_long = F.entries_long;
-        sixty_four = refl;
+        all_places = refl;
         shows = show_empty (new_state ds fs).tables no_notes 64;
       }
 

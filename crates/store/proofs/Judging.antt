@@ -1,18 +1,19 @@
 -- How the account judges a place, by what stands there. Assumes nothing.
-use Rattle.std.proofs.Common.{◌≡◌, ℕ, ◌<◌, ltb, Some, None, Option, ap, arith}
-use Rattle.std.proofs.lemmas.Bool.{cond-true, cond-false, lt-ltb, le-ltb}
+use Rattle.std.proofs.Common.{◌≡◌, ℕ, ◌<◌, ◌≤◌, leb, Some, None, Option, ap, arith}
+use Rattle.std.proofs.lemmas.Bool.{cond-true, cond-false, le-leb, lt-leb}
 use Rattle.kinds.specs.Kinds.{KeyKind, ValueKind}
+use Rattle.model.specs.declared.limits.TheConstants.{PLACES}
 use Rattle.model.specs.Accounts.{Version, Place, empty, draft, published, Account, nth}
 use Rattle.model.specs.Calls.{Outcome, refuse, on_place, on_live, on_published, on_empty, on_draft}
 use Rattle.model.specs.Runs.{live}
 
 module _ (K : KeyKind) (V : ValueKind) (a : Account) (i : ℕ) where
   -- the number of a place
-  pub no_place : (o : Outcome) → 63 < i → on_place K V a i o ≡ refuse K V a 3
-  no_place o h = cond-true (ltb 63 i) (refuse K V a 3) o (lt-ltb 63 i h)
+  pub no_place : (o : Outcome) → PLACES ≤ i → on_place K V a i o ≡ refuse K V a 3
+  no_place o h = cond-true (leb PLACES i) (refuse K V a 3) o (le-leb PLACES i h)
 
-  pub is_place : (o : Outcome) → i < 64 → on_place K V a i o ≡ o
-  is_place o h = cond-false (ltb 63 i) (refuse K V a 3) o (le-ltb 63 i (omega arith))
+  pub is_place : (o : Outcome) → i < PLACES → on_place K V a i o ≡ o
+  is_place o h = cond-false (leb PLACES i) (refuse K V a 3) o (lt-leb PLACES i h)
 
   -- what stands there, by cases
   abbrev of_empty : Outcome → Place → Outcome

@@ -114,7 +114,7 @@ module _ {X Y : Type 0} (K : KeyKind) (V : ValueKind) (kb : X → List ℕ) (vb 
           led = led_by_nothing K m;
           room = subst (λ (z : Shared). z.new_nodes ≤ S.tables.spare) (sym share_is) (le_of c.nodes _ _ nodes_are p);
           entry_room = subst (λ (z : Shared). z.new_entries ≤ S.tables.entry_spare) (sym share_is) (le_of c.entries _ _ entries_are q);
-          few_roots = few_owners (length (owners S.places)) (length S.places) (owners_few S.places) rep.sixty_four;
+          few_roots = few_owners (length (owners S.places)) (length S.places) (owners_few S.places) rep.all_places;
           few_in_hand = omega arith;
         }
 
@@ -235,7 +235,7 @@ module _ {X Y : Type 0} {K : KeyKind} {V : ValueKind} {kb : X → List ℕ} {vb 
             let B = done.built (may_merge K V kb vb S i ours base theirs inside some.at started.0 started.1 (some.is.judges started.0 started.1).merging c E p q e) in
             let old : (j : ℕ) → occ j (node_of r ++ owners S.places) ≡ occ j (node_of ours ++ (node_of r ++ owners (set S.places i Empty))) = λ j.
             as_often _ _ _ _ _ _ _ _ (occ_append j (node_of r) (owners S.places)) (occ_append j (node_of ours) (node_of r ++ owners (set S.places i Empty))) (occ_append j (node_of r) (owners (set S.places i Empty)))
-            (subst (λ (z : Spot). occ j (owners (set S.places i Empty)) + occ j (root_of z) ≡ occ j (owners S.places) + occ j (root_of Empty)) some.at (owners_set j S.places i Empty (omega (arith, started.1.sixty_four)))) (occ_nil j) in
+            (subst (λ (z : Spot). occ j (owners (set S.places i Empty)) + occ j (root_of z) ≡ occ j (owners S.places) + occ j (root_of Empty)) some.at (owners_set j S.places i Empty (omega (arith, started.1.all_places)))) (occ_nil j) in
             ((_, nodes_same U.nodes U.free U.spare _ _ old B.sits.nodes), ((_, B.sits.entries), B.sits.entryless))
 
         pub roots_merged : (r : Branch) (U W : Tables X Y) → MergeDone K V kb vb S.tables ours base theirs 8 r U → GivenUp (node_of ours) U W

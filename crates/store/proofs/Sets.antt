@@ -206,7 +206,7 @@ module _ {X Y : Type 0} {K : KeyKind} {V : ValueKind} {kb : X → List ℕ} {vb 
         calm = crowd_is_crowded K m ∙ sym crowded_is ∙ e;
         room = subst (λ (z : Shared). z.new_nodes ≤ S.tables.spare) (portion_root K (a.calls + 1) (whole v ∷ []) m) (le_of c.nodes _ _ nodes_are p);
         entry_room = subst (λ (z : Shared). z.new_entries ≤ S.tables.entry_spare) (portion_root K (a.calls + 1) (whole v ∷ []) m) (le_of c.entries _ _ entries_are q);
-        few_roots = few_owners (length (owners S.places)) (length S.places) (owners_few S.places) rep.sixty_four;
+        few_roots = few_owners (length (owners S.places)) (length S.places) (owners_few S.places) rep.all_places;
         few_in_hand = omega arith;
       }
 

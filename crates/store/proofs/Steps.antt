@@ -98,7 +98,7 @@ module _ {X Y : Type 0} (K : KeyKind) (V : ValueKind) (kb : X → List ℕ) (vb 
     entry_early = λ e h. mark_early _ _ a.calls (rep.entry_early e h) refl;
     long = rep.long;
     entry_long = rep.entry_long;
-    sixty_four = rep.sixty_four;
+    all_places = rep.all_places;
     shows = subst (Show S.tables rep.notes S.places) (sym same) rep.shows;
   }
 
@@ -111,7 +111,7 @@ module _ {X Y : Type 0} (K : KeyKind) (V : ValueKind) (kb : X → List ℕ) (vb 
     after_sits =
         given_up_sits K kb vb (root_of (get_or S.places i Empty)) U W M (owners (set S.places i spot)) [] gone
         (sits_same K kb vb U M (root_of spot ++ owners S.places) (root_of (get_or S.places i Empty) ++ owners (set S.places i spot)) [] []
-        (λ k. as_often _ _ _ _ _ _ (occ_append k (root_of spot) (owners S.places)) (occ_append k (root_of (get_or S.places i Empty)) (owners (set S.places i spot))) (owners_set k S.places i spot (omega (arith, rep.sixty_four))))
+        (λ k. as_often _ _ _ _ _ _ (occ_append k (root_of spot) (owners S.places)) (occ_append k (root_of (get_or S.places i Empty)) (owners (set S.places i spot))) (owners_set k S.places i spot (omega (arith, rep.all_places))))
         (λ e. refl) sits)
 
     pub replaced : Represents K V kb vb (record { tables = W; places = set S.places i spot }) (after K V a c)
@@ -129,7 +129,7 @@ module _ {X Y : Type 0} (K : KeyKind) (V : ValueKind) (kb : X → List ℕ) (vb 
       ];
       long = gone.long ∙ grown.long ∙ rep.long;
       entry_long = gone.entry_long ∙ grown.entry_long ∙ rep.entry_long;
-      sixty_four = length-set S.places i spot ∙ rep.sixty_four;
+      all_places = length-set S.places i spot ∙ rep.all_places;
       shows =
           subst (Show W M (set S.places i spot)) (sym leaves)
           (show_kept U W M M (set S.places i spot) (set a.places i place) (λ j q. (held_of _ _ _ (after_sits.nodes.counted j) q, refl))
@@ -155,12 +155,12 @@ module _ {X Y : Type 0} (K : KeyKind) (V : ValueKind) (kb : X → List ℕ) (vb 
       notes = rep.notes;
       sits =
           sits_same K kb vb S.tables rep.notes (owners S.places) (owners (set S.places i spot)) [] []
-          (λ k. same_often _ _ _ _ (owners_set k S.places i spot (omega (arith, rep.sixty_four))) (ap (occ k) root)) (λ e. refl) rep.sits;
+          (λ k. same_often _ _ _ _ (owners_set k S.places i spot (omega (arith, rep.all_places))) (ap (occ k) root)) (λ e. refl) rep.sits;
       early = λ j h. mark_early _ _ a.calls (rep.early j h) refl;
       entry_early = λ e h. mark_early _ _ a.calls (rep.entry_early e h) refl;
       long = rep.long;
       entry_long = rep.entry_long;
-      sixty_four = length-set S.places i spot ∙ rep.sixty_four;
+      all_places = length-set S.places i spot ∙ rep.all_places;
       shows = subst (Show S.tables rep.notes (set S.places i spot)) (sym leaves) (show_set S.tables rep.notes S.places a.places i spot place shows rep.shows);
     }
       where

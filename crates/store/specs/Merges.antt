@@ -2,6 +2,7 @@
 use Rattle.std.specs.Prelude.{◌≡◌, ℕ, ◌≤◌, List, [], ◌∷◌, length, Option, Result, slice_index_or}
 use Rattle.kinds.specs.Kinds.{KeyKind, ValueKind}
 use Rattle.kinds.specs.declared.refusal.Refusal.{Refusal}
+use Rattle.model.specs.declared.limits.TheConstants.{MOST_CELLS}
 use Rattle.model.specs.Maps.{Map, merge}
 use Rattle.model.specs.Tries.{Lawful}
 use Rattle.model.specs.Sharing.{Part}
@@ -23,11 +24,11 @@ module _ {X Y : Type 0} (K : KeyKind) (V : ValueKind) (kb : X → List ℕ) (vb 
     pub common : Part
     pub base_is : Is S.tables rep.notes base 8 [] common
     pub common_lawful : Lawful K V common.settings
-    pub common_few : length common.settings ≤ 65535
+    pub common_few : length common.settings ≤ MOST_CELLS
     pub other : Version
     pub theirs_is : Is S.tables rep.notes theirs 8 [] (whole other)
     pub other_lawful : Lawful K V other.settings
-    pub other_few : length other.settings ≤ 65535
+    pub other_few : length other.settings ≤ MOST_CELLS
 
   -- a call is that merge, judged so far, and then a draft of the result with some names
   pub record Judges (c : Call) (a : Account) (rep : Represents K V kb vb S a) : Type 0 where

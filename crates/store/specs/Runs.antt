@@ -3,6 +3,7 @@ use Rattle.std.specs.Prelude.{◌≡◌, ℕ, ◌+◌, ◌<◌, ◌≤◌, ◌�
 use Rattle.kinds.specs.Kinds.{KeyKind, ValueKind}
 use Rattle.kinds.specs.declared.refusal.Refusal.{Refusal}
 use Rattle.kinds.specs.Refusals.{refused, shown}
+use Rattle.model.specs.declared.limits.TheConstants.{MOST_CELLS}
 use Rattle.model.specs.Tries.{Lawful}
 use Rattle.model.specs.Images.{image}
 use Rattle.model.specs.Sharing.{Marked}
@@ -65,8 +66,8 @@ module _ {X Y : Type 0} (K : KeyKind) (V : ValueKind) (kb : X → List ℕ) (vb 
 
   -- a new store over tables of so many cells made the first n of the calls, as many as had room in the list of answers, which was old and is now new, and in the buffer, which was out and is now out'
   pub record Completed (node_cells entry_cells : ℕ) (calls : List (Call X Y)) (old new : List (Answer Y)) (out out' : List ℕ) (n : ℕ) : Type 0 where
-    pub few_nodes : node_cells ≤ 65535
-    pub few_entries : entry_cells ≤ 65535
+    pub few_nodes : node_cells ≤ MOST_CELLS
+    pub few_entries : entry_cells ≤ MOST_CELLS
     pub as_many : n ≡ made K V kb vb (fresh node_cells entry_cells) calls (length old) (length out)
     -- every answer is the account's, and so is every image, one after another from the buffer's first byte on
     pub answered : answers_shown vb out' (take n new) ≡ answers K V (fresh node_cells entry_cells) (first_calls n calls)
@@ -78,7 +79,7 @@ module _ {X Y : Type 0} (K : KeyKind) (V : ValueKind) (kb : X → List ℕ) (vb 
 -- a table is longer than 65,535 cells: refused with 2, and the tables, the list of answers and the buffer are as they were
 pub record TurnedAway {X Y : Type 0} (cs ds : List NodeCell) (es fs : List (EntryCell X Y)) (old new : List (Answer Y)) (out out' : List ℕ) (x : Refusal) : Type 0 where
   pub number : shown x ≡ refused 2
-  pub too_long : (65535 < length cs) ⊎ (65535 < length es)
+  pub too_long : (MOST_CELLS < length cs) ⊎ (MOST_CELLS < length es)
   pub nodes : ds ≡ cs
   pub entries : fs ≡ es
   pub answers : new ≡ old

@@ -1,7 +1,8 @@
 -- What stands at a place of the store, the root that it holds on to, and giving that up. Assumes nothing.
-use Rattle.std.specs.Prelude.{◌≡◌, ℕ, ◌<◌, ◌⊎◌, List, [], ◌++◌, length, Ok, Err, Result, slice_index_or}
+use Rattle.std.specs.Prelude.{◌≡◌, ℕ, ◌<◌, ◌≤◌, ◌⊎◌, List, [], ◌++◌, length, Ok, Err, Result, slice_index_or}
 use Rattle.kinds.specs.declared.refusal.Refusal.{Refusal}
 use Rattle.kinds.specs.Refusals.{shown, refused}
+use Rattle.model.specs.declared.limits.TheConstants.{PLACES}
 use Rattle.tables.specs.declared.cells.NodeCell.{NodeCell}
 use Rattle.tables.specs.declared.table.Table.{Table}
 use Rattle.tables.specs.Cells.{cell, entry_cell}
@@ -15,8 +16,8 @@ use Rattle.store.specs.declared.spot.Spot.TheVariants.{Empty, Draft, Published}
 
 -- a place by its number: what stands there, or a refusal
 abbrev pub Judged : List Spot → ℕ → Result Spot Refusal → Type 0
-Judged ss i (Ok s) = (i < 64) × (slice_index_or ss i Empty ≡ s)
-Judged ss i (Err x) = (63 < i) × (shown x ≡ refused 3)
+Judged ss i (Ok s) = (i < PLACES) × (slice_index_or ss i Empty ≡ s)
+Judged ss i (Err x) = (PLACES ≤ i) × (shown x ≡ refused 3)
 
 -- what may be wanted at a place: nothing, or the root of a draft, of a published version, or of either
 abbrev pub IsEmpty : Spot → Unit {0} → Type 0
@@ -33,8 +34,8 @@ IsLive s b = (s ≡ Draft b) ⊎ (s ≡ Published b)
 
 -- a place by its number: what is wanted there; or a refusal, with 3 where no place has the number, and with n where something else stands
 abbrev pub Wanted : {A : Type 0} → (Spot → A → Type 0) → ℕ → List Spot → ℕ → Result A Refusal → Type 0
-Wanted P n ss i (Ok x) = (i < 64) × P (slice_index_or ss i Empty) x
-Wanted {A = A} P n ss i (Err e) = ((63 < i) × (shown e ≡ refused 3)) ⊎ ((i < 64) × (((x : A) → P (slice_index_or ss i Empty) x → ⊥) × (shown e ≡ refused n)))
+Wanted P n ss i (Ok x) = (i < PLACES) × P (slice_index_or ss i Empty) x
+Wanted {A = A} P n ss i (Err e) = ((PLACES ≤ i) × (shown e ≡ refused 3)) ⊎ ((i < PLACES) × (((x : A) → P (slice_index_or ss i Empty) x → ⊥) × (shown e ≡ refused n)))
 
 -- the root of the version at a place
 abbrev pub root_of : Spot → List ℕ

@@ -2,6 +2,7 @@
 use Rattle.std.specs.Prelude.{◌≡◌, ℕ, ◌<◌, ◌≤◌, ◌⊎◌, List, length, Ok, Err, Result}
 use Rattle.kinds.specs.Kinds.{KeyKind, ValueKind}
 use Rattle.kinds.specs.Refusals.{refused, shown}
+use Rattle.model.specs.declared.limits.TheConstants.{MOST_CELLS}
 use Rattle.model.specs.Accounts.{fresh}
 use Rattle.tables.specs.declared.cells.NodeCell.{NodeCell}
 use Rattle.tables.specs.declared.cells.EntryCell.{EntryCell}
@@ -11,14 +12,14 @@ use Rattle.store.specs.Stores.{State, Represents}
 -- a table is longer than 65,535 cells: refused with 2, and the tables come back as they were
 pub record GivenBack {X Y : Type 0} (cs : List NodeCell) (es : List (EntryCell X Y)) (u : NotStarted X Y) : Type 0 where
   pub number : shown u.refusal ≡ refused 2
-  pub too_long : (65535 < length cs) ⊎ (65535 < length es)
+  pub too_long : (MOST_CELLS < length cs) ⊎ (MOST_CELLS < length es)
   pub nodes : u.nodes.now ≡ cs
   pub entries : u.entries.now ≡ es
 
 -- a store that stands for a new account over so many cells
 pub record Begun {X Y : Type 0} (K : KeyKind) (V : ValueKind) (kb : X → List ℕ) (vb : Y → List ℕ) (cs : List NodeCell) (es : List (EntryCell X Y)) (S : State X Y) : Type 0 where
-  pub few_nodes : length cs ≤ 65535
-  pub few_entries : length es ≤ 65535
+  pub few_nodes : length cs ≤ MOST_CELLS
+  pub few_entries : length es ≤ MOST_CELLS
   pub account : Represents K V kb vb S (fresh (length cs) (length es))
 
 -- of tables that were cs and es

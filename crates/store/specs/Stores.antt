@@ -2,6 +2,7 @@
 use Rattle.std.specs.Prelude.{◌≡◌, ℕ, ◌<◌, ◌≤◌, List, [], ◌∷◌, ◌++◌, length}
 use Rattle.kinds.specs.Kinds.{KeyKind, ValueKind}
 use Rattle.kinds.specs.Refusals.{Refused}
+use Rattle.model.specs.declared.limits.TheConstants.{PLACES}
 use Rattle.model.specs.Accounts.{Account, Place, empty, draft, published, whole}
 use Rattle.model.specs.Calls.{Call, Answer, refused, outcome, after}
 use Rattle.model.specs.Runs.{Reached}
@@ -51,7 +52,7 @@ pub record Represents {X Y : Type 0} (K : KeyKind) (V : ValueKind) (kb : X → L
   pub entry_early : (e : ℕ) → 0 < (entry_cell S.tables.entries e).holders → (notes.entry e).label.mark ≤ a.calls
   pub long : length S.tables.nodes ≡ a.node_cells
   pub entry_long : length S.tables.entries ≡ a.entry_cells
-  pub sixty_four : length S.places ≡ 64
+  pub all_places : length S.places ≡ PLACES
   pub shows : Show S.tables notes S.places a.places
 
 -- the store was started, and changed by calls alone

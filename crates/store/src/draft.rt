@@ -4,6 +4,7 @@ ghost use Rattle.store.specs.Answers.{done_shown};
 ghost use Rattle.store.specs.Drafts.{taken_shown, ComesBack};
 
 use kinds::Refusal;
+use model::PLACES;
 use std::marker::Model;
 
 // A draft, by the number of its place. It can be neither copied nor dropped: publish and abandon take it back.
@@ -22,7 +23,7 @@ impl Model for Draft {
 impl Draft {
     // The draft at a place.
     pub(crate) fn at(place: u32) -> Draft
-        requires { place < 64 }
+        requires { place < PLACES }
         ensures { result ≡ place }
     {
         Draft { place: place as u8 }

@@ -12,6 +12,7 @@ use super::spot::Spot;
 use super::store::Store;
 use branches::Branch;
 use kinds::{Key, Refusal, Value};
+use model::PLACES;
 
 impl<'a, K: Key, V: Value> Store<'a, K, V> {
     // Makes a draft a published version at its place.
@@ -43,7 +44,7 @@ impl<'a, K: Key, V: Value> Store<'a, K, V> {
 
     // Empties a live place, and gives up its root.
     fn clear(&mut self, place: u32, root: Branch)
-        requires inside { place < 64 }
+        requires inside { place < PLACES }
         requires live { IsLive (slice_index_or self.old.places place Empty) root }
         ensures tables { GivenUp (node_of root) self.old.tables self.new.tables }
         ensures places { self.new.places ≡ slice_set self.old.places place Empty }

@@ -11,6 +11,7 @@ use super::store::Store;
 use branches::Branch;
 use kinds::{Key, Refusal, Value};
 use merges::{estimate_merge, merge};
+use model::PLACES;
 
 impl<'a, K: Key, V: Value> Store<'a, K, V> {
     // Joins a published place into a draft; answers the nodes and the entries that it took.
@@ -49,7 +50,7 @@ impl<'a, K: Key, V: Value> Store<'a, K, V> {
         base: Branch,
         theirs: Branch,
     ) -> Result<(usize, usize), Refusal>
-        requires inside { place < 64 }
+        requires inside { place < PLACES }
         requires some { SomeMerge K.kind V.kind K.bytes V.bytes self.old place ours base theirs }
         ensures { RootsMerged K.kind V.kind K.bytes V.bytes self.old place ours base theirs self.new result }
     {

@@ -9,11 +9,12 @@ use super::spot::Spot;
 use super::store::Store;
 use branches::Branch;
 use kinds::{Key, Refusal, Value};
+use model::PLACES;
 
 impl<'a, K: Key, V: Value> Store<'a, K, V> {
     // Makes a draft of the empty map at an empty place.
     pub(crate) fn open_at(&mut self, place: u32) -> Result<(), Refusal>
-        ensures inside { IfOk result (λ _. place < 64) }
+        ensures inside { IfOk result (λ _. place < PLACES) }
         ensures answered { Answered K.kind V.kind K.bytes V.bytes self.old self.new (Open place) (done_shown result) }
     {
         self.empty_at(place)?;
@@ -23,7 +24,7 @@ impl<'a, K: Key, V: Value> Store<'a, K, V> {
 
     // Makes a draft at an empty place, with the map of a published place: it holds that place's root too.
     pub(crate) fn open_from_at(&mut self, place: u32, from: u32) -> Result<(), Refusal>
-        ensures inside { IfOk result (λ _. place < 64) }
+        ensures inside { IfOk result (λ _. place < PLACES) }
         ensures answered { Answered K.kind V.kind K.bytes V.bytes self.old self.new (OpenFrom place from) (done_shown result) }
     {
         // a place that there is not is refused before the other is looked at

@@ -9,6 +9,7 @@ ghost use Rattle.store.specs.Starts.{New};
 use super::spot::Spot;
 use super::store::Store;
 use kinds::{Key, Refusal, Value};
+use model::PLACES;
 use tables::{EntryCell, EntryTable, NodeCell, NodeTable, Tables};
 
 // What a start that is refused gives back: the two tables as they were, and why.
@@ -43,7 +44,7 @@ impl<'a, K: Key, V: Value> Store<'a, K, V> {
                     spare: entry_spare,
                 },
             },
-            places: [Spot::Empty; 64],
+            places: [Spot::Empty; PLACES],
         }
     }
 }

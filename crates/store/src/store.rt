@@ -4,6 +4,7 @@ ghost use Rattle.store.specs.Spots.{Judged, Wanted, IsEmpty, IsDraft, IsPublishe
 use super::spot::Spot;
 use branches::Branch;
 use kinds::{Key, Refusal, Value};
+use model::PLACES;
 use std::marker::Model;
 use tables::Tables;
 
@@ -11,7 +12,7 @@ use tables::Tables;
 #[derive(Drop)]
 pub struct Store<'a, K: Key, V: Value> {
     pub(crate) tables: Tables<'a, K, V>,
-    pub(crate) places: [Spot; 64],
+    pub(crate) places: [Spot; PLACES],
 }
 
 impl<'a, K: Key, V: Value> Model for Store<'a, K, V> {
@@ -30,7 +31,7 @@ impl<'a, K: Key, V: Value> Store<'a, K, V> {
     pub(crate) fn spot_at(&self, place: u32) -> Result<Spot, Refusal>
         ensures { Judged self.now.places place result }
     {
-        if place > 63 {
+        if place as usize >= PLACES {
             return Err(Refusal::NoSuchPlace);
         }
         Ok(self.places[place as usize])

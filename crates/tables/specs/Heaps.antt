@@ -1,5 +1,6 @@
 -- Who holds which cell, and how often. Assumes nothing.
 use Rattle.std.specs.Prelude.{◌≡◌, ℕ, ◌+◌, ◌<◌, ◌≤◌, true, List, [], ◌∷◌, ◌++◌, length, is_some, None, sum_by, count_ones, slice_set}
+use Rattle.model.specs.declared.limits.TheConstants.{MOST_CELLS}
 use Rattle.tables.specs.declared.cells.NodeCell.{NodeCell}
 use Rattle.tables.specs.declared.cells.EntryCell.{EntryCell}
 use Rattle.tables.specs.Chains.{occ, Chain}
@@ -21,7 +22,7 @@ pub record Nodes (cs : List NodeCell) (head spare : ℕ) (roots : List ℕ) : Ty
   pub falls : (i k : ℕ) → 0 < occ k (kids (cell cs i)) → (cell cs k).level < (cell cs i).level
   -- no map has more than 16 bits
   pub narrow : (i : ℕ) → (count_ones (cell cs i).datamap ≤ 16) × (count_ones (cell cs i).nodemap ≤ 16)
-  pub short : length cs ≤ 65535
+  pub short : length cs ≤ MOST_CELLS
   pub chain : Chain (λ i. (cell cs i).next) (λ i. (cell cs i).holders) (length cs) head spare
 
 -- ---- entries
@@ -37,7 +38,7 @@ pub record Entries {K V : Type 0} (cs : List NodeCell) (es : List (EntryCell K V
   pub filled : (e : ℕ) → 0 < (entry_cell es e).holders → is_some (entry_cell es e).held ≡ true
   -- a free cell has nothing
   pub emptied : (e : ℕ) → (entry_cell es e).holders ≡ 0 → (entry_cell es e).held ≡ None
-  pub short : length es ≤ 65535
+  pub short : length es ≤ MOST_CELLS
   pub chain : Chain (λ e. (entry_cell es e).next) (λ e. (entry_cell es e).holders) (length es) head spare
 
 -- ---- both

@@ -7,12 +7,13 @@ ghost use Rattle.tables.specs.declared.cells.NodeCell.{NodeCell};
 
 use super::cells::{EntryCell, EntryId};
 use super::table::{Table, format};
+use model::MOST_CELLS;
 
 pub type EntryTable<'a, K, V> = Table<'a, EntryCell<K, V>>;
 
 // Makes every cell free, chained from the first to the last, beside any nodes that refer to no entry.
 pub(crate) fn format_entries<K: Copy, V: Copy>(cells: &mut [EntryCell<K, V>])
-    requires { length cells.old ≤ 65535 }
+    requires { length cells.old ≤ MOST_CELLS }
     ensures long { length cells.new ≡ length cells.old }
     ensures entries { (cs : List NodeCell) → ((e : ℕ) → inner_entries e cs ≡ 0) → Entries cs cells.new 0 (length cells.new) [] }
 {
@@ -30,7 +31,7 @@ pub fn entry_cell_at<K: Copy, V: Copy>(entries: &EntryTable<K, V>, at: usize) ->
 // One more holder of an entry. Its count cannot overflow: it is at most the references from outside and 16 for each node cell.
 pub fn hold_entry<K: Copy, V: Copy>(entries: &mut EntryTable<K, V>, id: EntryId)
     requires held { 0 < (entry_cell entries.old.cells.now id.0).holders }
-    requires heap { (cs : List NodeCell) × ((R : List ℕ) × (EntriesOf cs entries.old R × ((length R ≤ 65535) × ((length cs ≤ 65535) × ((i : ℕ) → count_ones (cell cs i).datamap ≤ 16))))) }
+    requires heap { (cs : List NodeCell) × ((R : List ℕ) × (EntriesOf cs entries.old R × ((length R ≤ MOST_CELLS) × ((length cs ≤ MOST_CELLS) × ((i : ℕ) → count_ones (cell cs i).datamap ≤ 16))))) }
     ensures { EntryIsHeld id.0 entries.old entries.new }
 {
     entries.hold(id.0 as usize);

@@ -7,12 +7,13 @@ ghost use Rattle.tables.specs.Heaps.{Nodes, Entryless, inner_entries};
 
 use super::cells::{Cell, NodeCell, NodeId};
 use super::table::{Table, format};
+use model::MOST_CELLS;
 
 pub type NodeTable<'a> = Table<'a, NodeCell>;
 
 // Makes every cell free, chained from the first to the last.
 pub(crate) fn format_nodes(cells: &mut [NodeCell])
-    requires { length cells.old ≤ 65535 }
+    requires { length cells.old ≤ MOST_CELLS }
     ensures long { length cells.new ≡ length cells.old }
     ensures nodes { Nodes cells.new 0 (length cells.new) [] }
     ensures entryless { Entryless cells.new }
@@ -24,7 +25,7 @@ pub(crate) fn format_nodes(cells: &mut [NodeCell])
 // One more holder of a node. Its count cannot overflow: it is at most the references from outside and 16 for each cell.
 pub fn hold_node(nodes: &mut NodeTable, id: NodeId)
     requires held { 0 < (cell nodes.old.cells.now id.0).holders }
-    requires heap { (R : List ℕ) × (NodesOf nodes.old R × (length R ≤ 65535)) }
+    requires heap { (R : List ℕ) × (NodesOf nodes.old R × (length R ≤ MOST_CELLS)) }
     ensures { NodeIsHeld id.0 nodes.old nodes.new }
 {
     nodes.hold(id.0 as usize);

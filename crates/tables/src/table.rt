@@ -2,6 +2,7 @@
 ghost use Rattle.std.specs.Prelude.{◌≡◌, ℕ, ◌+◌, ◌-◌, ◌^◌, ◌<◌, ◌≤◌, true, false, length, slice_index_or, slice_set};
 
 use super::cells::Cell;
+use model::MOST_CELLS;
 
 #[derive(Drop)]
 pub struct Table<'a, C> {
@@ -13,7 +14,7 @@ pub struct Table<'a, C> {
 
 // Makes every cell a free one, chained from the first to the last.
 pub(crate) fn format<C: Cell>(cells: &mut [C], empty: C)
-    requires { length cells.old ≤ 65535 }
+    requires { length cells.old ≤ MOST_CELLS }
     ensures long { length cells.new ≡ length cells.old }
     ensures chained { (k : ℕ) → k < length cells.new → slice_index_or cells.new k C.blank ≡ C.with empty 0 (k + 1) }
 {

@@ -6,6 +6,7 @@ use Rattle.std.specs.List.{AllByRecursion}
 use Rattle.std.proofs.lemmas.Bool.{eqb-true, eq-eqb, and_parts, le-ltb, and_from}
 use Rattle.std.proofs.lemmas.List.{length-append, append_assoc, take_at, drop_at}
 use Rattle.kinds.specs.Kinds.{KeyKind, ValueKind}
+use Rattle.model.specs.declared.commands.TheConstants.{ENTRY}
 use Rattle.model.specs.Maps.{Setting, Map, Rises, Readable}
 use Rattle.model.specs.Tries.{filter, digit, leads, at_digit, Uncrowded}
 use Rattle.model.specs.Images.{entry}
@@ -51,7 +52,7 @@ module _ (K : KeyKind) (V : ValueKind) where
       let front : take K.width (s.key ++ s.value) ≡ s.key = take_at s.key s.value K.width (K.reads_width s.key r.0) in
       let back : drop K.width (s.key ++ s.value) ≡ s.value = drop_at s.key s.value K.width (K.reads_width s.key r.0) in (
         at + (1 + (K.width + V.width)),
-        command_runs 0x45 (K.width + V.width) (entry_in K V ok at) at (s.key ++ s.value) rest long ∙ rw (front, back, r.0, r.1, o),
+        command_runs ENTRY (K.width + V.width) (entry_in K V ok at) at (s.key ++ s.value) rest long ∙ rw (front, back, r.0, r.1, o),
       )
 
   pub rising_gets : (p : List ℕ) (m : Map) (ok : List ℕ → Bool) → Rises K m → AllByRecursion (Readable K V) m → AllByRecursion (λ s. leads K 0 p s.key ≡ true) m →

@@ -8,6 +8,7 @@ use Rattle.std.proofs.lemmas.List.{append-nil, length-append, append_assoc, leng
 use Rattle.byte_rows.specs.Rows.{byte_row, in_bytes, number}
 use Rattle.kinds.specs.Kinds.{KeyKind, ValueKind}
 use Rattle.byte_rows.proofs.Numbers.{number_fits, read_bytes}
+use Rattle.model.specs.declared.commands.TheConstants.{COLLISION, NODE}
 use Rattle.model.specs.Maps.{Setting, Map, Readable}
 use Rattle.model.specs.Tries.{digit, sixteen, leads, at_digit, one, many, branching, Uncrowded}
 use Rattle.model.specs.Images.{entry, node}
@@ -65,14 +66,14 @@ module _ (K : KeyKind) (V : ValueKind) where
   crowd_read : (p : List ℕ) (at : ℕ) (bs : List ℕ) (xs : List Setting) (to : ℕ) (rest : List ℕ) → read_node K V 0 p at bs ≡ got xs to rest →
       (bs ≡ node K 0 (gather K xs) ++ rest) × (WellRead p xs × (2 ≤ length xs))
   crowd_read p at bs xs to rest e =
-      let r = command_ran 0x43 1 (λ w. read_crowd K V p at (number w)) at bs xs to rest e in
+      let r = command_ran COLLISION 1 (λ w. read_crowd K V p at (number w)) at bs xs to rest e in
       let n : ℕ = number r.operands in
       let t = passed (leb 2 n && leb n 16) (rising K V p n (λ k. true) (at + (1 + 1)) r.left) 9 at xs to rest r.next in
       let o = and_parts (leb 2 n) (leb n 16) t.0 in
       let q = rising_read K V p n (λ k. true) (at + (1 + 1)) r.left xs to rest t.1 in
       let same : gather K xs ≡ xs = gather_rising K xs q.rises in
       let spelt : bs ≡ node K 0 xs ++ rest =
-      r.spelt ∙ (ap₂ (λ u v. 0x43 ∷ (u ++ v)) (alone_list r.operands r.wide) q.spelt ∙ ap (λ k. 0x43 ∷ (k ∷ (flat entry xs ++ rest))) (sym q.counted)) in (
+      r.spelt ∙ (ap₂ (λ u v. COLLISION ∷ (u ++ v)) (alone_list r.operands r.wide) q.spelt ∙ ap (λ k. COLLISION ∷ (k ∷ (flat entry xs ++ rest))) (sym q.counted)) in (
         subst (λ m. bs ≡ node K 0 m ++ rest) (sym same) spelt,
         (
           record {
@@ -211,10 +212,10 @@ module _ (K : KeyKind) (V : ValueKind) where
         (sc.spelt ∙ ap (λ l. l ++ rest) (flat_like _ _ (digits_in y) (all_from_mem _ (digits_in y) (λ g m. ap (node K h) ((known g (mem_of_filter (flag y) sixteen g m)).as_child (all_mem _ (digits_in y) g (filter_passes (flag y) sixteen) m)))))))
 
     -- the bytes that x and y and what is left spell are the node of what was read
-    pub spelt_node : d ≡ 7 - h → x < 256 ^ 2 → y < 256 ^ 2 → 0x4E ∷ (in_bytes 2 x ++ (in_bytes 2 y ++ left)) ≡ node K (suc h) (gather K (ys ++ cs)) ++ rest
+    pub spelt_node : d ≡ 7 - h → x < 256 ^ 2 → y < 256 ^ 2 → NODE ∷ (in_bytes 2 x ++ (in_bytes 2 y ++ left)) ≡ node K (suc h) (gather K (ys ++ cs)) ++ rest
     spelt_node deep small_x small_y =
-        ap₂ (λ a b. 0x4E ∷ (in_bytes 2 a ++ (in_bytes 2 b ++ left))) (sym (data_is small_x)) (sym (nodes_is small_y))
-        ∙ (ap (λ l. 0x4E ∷ (in_bytes 2 (bits_of (λ g. one (part g)) sixteen) ++ (in_bytes 2 (bits_of (λ g. many (part g)) sixteen) ++ l)))
+        ap₂ (λ a b. NODE ∷ (in_bytes 2 a ++ (in_bytes 2 b ++ left))) (sym (data_is small_x)) (sym (nodes_is small_y))
+        ∙ (ap (λ l. NODE ∷ (in_bytes 2 (bits_of (λ g. one (part g)) sixteen) ++ (in_bytes 2 (bits_of (λ g. many (part g)) sixteen) ++ l)))
         (left_is ∙ sym (append_assoc (flat (λ g. flat entry (part g)) (singles K d (gather K (ys ++ cs)))) (flat (λ g. node K h (part g)) (branching K d (gather K (ys ++ cs)))) rest))
         ∙ (ap (λ k. node_form K h k (gather K (ys ++ cs)) ++ rest) deep
         ∙ ap (λ l. l ++ rest) (sym (node_is K h (gather K (ys ++ cs))))))
@@ -257,7 +258,7 @@ module _ (K : KeyKind) (V : ValueKind) where
 
   parts_read : (h : ℕ) → ReadsNodes h → (p : List ℕ) (at x y from : ℕ) (left : List ℕ) (xs : List Setting) (to : ℕ) (rest : List ℕ) → length p + suc h ≡ 8 →
       byte_row left ≡ true → x < 256 ^ 2 → y < 256 ^ 2 → read_parts K V (read_node K V h) h p at x y from left ≡ got xs to rest →
-      (0x4E ∷ (in_bytes 2 x ++ (in_bytes 2 y ++ left)) ≡ node K (suc h) (gather K xs) ++ rest) × (WellRead p xs × (least (suc h) ≤ length xs))
+      (NODE ∷ (in_bytes 2 x ++ (in_bytes 2 y ++ left)) ≡ node K (suc h) (gather K xs) ++ rest) × (WellRead p xs × (least (suc h) ≤ length xs))
   parts_read h ih p at x y from left xs to rest e b small_x small_y r =
       let t = passed (eqb (bit_and x y) 0 && enough h (digits_in x) (digits_in y)) (then (each (λ g. read_entry K V (leads K 0 (p ++ (g ∷ [])))) (digits_in x) from left) (each (λ g. read_node K V h (p ++ (g ∷ []))) (digits_in y))) 9 at xs to rest r in
       let o = and_parts (eqb (bit_and x y) 0) (enough h (digits_in x) (digits_in y)) t.0 in
@@ -270,16 +271,16 @@ module _ (K : KeyKind) (V : ValueKind) where
       spread : (ys cs : List Setting) (mid : List ℕ) → bit_and x y ≡ 0 → enough h (digits_in x) (digits_in y) ≡ true → xs ≡ ys ++ cs →
           Spread (place K (7 - h)) (Stands p) (λ l. flat entry (gather K l)) (Entry p) 1 (digits_in x) ys left mid →
           Spread (place K (7 - h)) (Stands p) (λ l. node K h (gather K l)) (Child p) 2 (digits_in y) cs mid rest →
-          (0x4E ∷ (in_bytes 2 x ++ (in_bytes 2 y ++ left)) ≡ node K (suc h) (gather K xs) ++ rest) × (WellRead p xs × (least (suc h) ≤ length xs))
+          (NODE ∷ (in_bytes 2 x ++ (in_bytes 2 y ++ left)) ≡ node K (suc h) (gather K xs) ++ rest) × (WellRead p xs × (least (suc h) ≤ length xs))
       spread ys cs mid apart full j sy sc =
-          subst (λ l. (0x4E ∷ (in_bytes 2 x ++ (in_bytes 2 y ++ left)) ≡ node K (suc h) (gather K l) ++ rest) × (WellRead p l × (least (suc h) ≤ length l))) (sym j) (
+          subst (λ l. (NODE ∷ (in_bytes 2 x ++ (in_bytes 2 y ++ left)) ≡ node K (suc h) (gather K l) ++ rest) × (WellRead p l × (least (suc h) ≤ length l))) (sym j) (
             spelt_node h (7 - h) p x y ys cs left mid rest sy sc apart refl small_x small_y,
             (spread_read h (7 - h) p x y ys cs left mid rest sy sc apart, spread_filled h (7 - h) p x y ys cs left mid rest sy sc apart full),
           )
 
       joined : bit_and x y ≡ 0 → enough h (digits_in x) (digits_in y) ≡ true →
           Split (each (λ g. read_entry K V (leads K 0 (p ++ (g ∷ [])))) (digits_in x) from left) (each (λ g. read_node K V h (p ++ (g ∷ []))) (digits_in y)) xs to rest →
-          (0x4E ∷ (in_bytes 2 x ++ (in_bytes 2 y ++ left)) ≡ node K (suc h) (gather K xs) ++ rest) × (WellRead p xs × (least (suc h) ≤ length xs))
+          (NODE ∷ (in_bytes 2 x ++ (in_bytes 2 y ++ left)) ≡ node K (suc h) (gather K xs) ++ rest) × (WellRead p xs × (least (suc h) ≤ length xs))
       joined apart full s =
           let sy : Spread (place K (7 - h)) (Stands p) (λ l. flat entry (gather K l)) (Entry p) 1 (digits_in x) s.before left s.mid =
           entries_spread p (7 - h) x deep from left s.before s.mid_at s.mid b s.first in
@@ -306,8 +307,8 @@ module _ (K : KeyKind) (V : ValueKind) where
   pub node_read : (h : ℕ) → ReadsNodes h
   node_read zero p at bs xs to rest e b r = crowd_read p at bs xs to rest r
   node_read (suc h) p at bs xs to rest e b r =
-      let c = command_ran 0x4E 4 (λ w. read_parts K V (read_node K V h) h p at (number (take 2 w)) (number (drop 2 w))) at bs xs to rest r in
-      let rows = byte_row_parts c.operands c.left (and_parts (ltb 0x4E 256) (byte_row (c.operands ++ c.left)) (ap byte_row (sym c.spelt) ∙ b)).1 in
+      let c = command_ran NODE 4 (λ w. read_parts K V (read_node K V h) h p at (number (take 2 w)) (number (drop 2 w))) at bs xs to rest r in
+      let rows = byte_row_parts c.operands c.left (and_parts (ltb NODE 256) (byte_row (c.operands ++ c.left)) (ap byte_row (sym c.spelt) ∙ b)).1 in
       let q = pairs_read c.operands c.wide rows.0 in
       let i = parts_read h (node_read h) p at (number (take 2 c.operands)) (number (drop 2 c.operands)) (at + (1 + 4)) c.left xs to rest e rows.1 q.1.0 q.1.1 c.next in
-      (c.spelt ∙ (ap (λ l. 0x4E ∷ (l ++ c.left)) (sym q.0) ∙ i.0), i.1)
+      (c.spelt ∙ (ap (λ l. NODE ∷ (l ++ c.left)) (sym q.0) ∙ i.0), i.1)

@@ -5,6 +5,7 @@ use Rattle.std.proofs.lemmas.Bool.{eqb-true, ne_eqb, lt-ltb}
 use Rattle.std.proofs.lemmas.List.{append-nil, length-append}
 use Rattle.byte_rows.specs.Rows.{in_bytes}
 use Rattle.kinds.specs.Kinds.{KeyKind}
+use Rattle.model.specs.declared.commands.TheConstants.{NODE}
 use Rattle.model.specs.Maps.{Setting, Map, Rises}
 use Rattle.model.specs.Tries.{filter, digit, sixteen, at_digit, one, many, branching}
 use Rattle.model.specs.Images.{entry, node}
@@ -43,7 +44,7 @@ module _ (K : KeyKind) where
   -- a node that parts its settings by the digits at depth d
   abbrev pub node_form : ℕ → ℕ → Map → List ℕ
   node_form h d m =
-      0x4E ∷ (in_bytes 2 (bits_of (λ g. one (at_digit K d m g)) sixteen) ++ (in_bytes 2 (bits_of (λ g. many (at_digit K d m g)) sixteen) ++
+      NODE ∷ (in_bytes 2 (bits_of (λ g. one (at_digit K d m g)) sixteen) ++ (in_bytes 2 (bits_of (λ g. many (at_digit K d m g)) sixteen) ++
       (flat (λ g. flat entry (at_digit K d m g)) (singles d m) ++ flat (λ g. node K h (at_digit K d m g)) (branching K d m))))
 
   pub node_is : (h : ℕ) (m : Map) → node K (suc h) m ≡ node_form h (7 - h) m

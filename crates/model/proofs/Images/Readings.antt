@@ -5,6 +5,7 @@ use Rattle.std.proofs.lemmas.Bool.{eqb-true, and_parts, and_from, ltb-false}
 use Rattle.std.proofs.lemmas.List.{append_assoc, length-take-le, take-append-drop}
 use Rattle.byte_rows.specs.Rows.{byte_row}
 use Rattle.kinds.specs.Kinds.{KeyKind, ValueKind}
+use Rattle.model.specs.declared.commands.TheConstants.{ENTRY}
 use Rattle.model.specs.Maps.{Setting, Rises, Readable}
 use Rattle.model.specs.Tries.{leads}
 use Rattle.model.specs.Images.{entry}
@@ -101,7 +102,7 @@ module _ (K : KeyKind) (V : ValueKind) where
 
   pub entry_read : (ok : List ℕ → Bool) (at : ℕ) (bs : List ℕ) (xs : List Setting) (to : ℕ) (rest : List ℕ) → read_entry K V ok at bs ≡ got xs to rest → Entered ok bs xs rest
   entry_read ok at bs xs to rest e =
-      let r = command_ran 0x45 (K.width + V.width) (entry_in K V ok at) at bs xs to rest e in
+      let r = command_ran ENTRY (K.width + V.width) (entry_in K V ok at) at bs xs to rest e in
       let w : List ℕ = r.operands in
       let s : Setting = record { key = take K.width w; value = drop K.width w } in
       let p = passed (K.readable s.key && (V.readable s.value && ok s.key)) (got (s ∷ []) (at + (1 + (K.width + V.width))) r.left) 9 at xs to rest r.next in
@@ -112,7 +113,7 @@ module _ (K : KeyKind) (V : ValueKind) where
       record {
         setting = s;
         alone = alone;
-        spelt = r.spelt ∙ ap₂ (λ u v. 0x45 ∷ (u ++ v)) (sym (take-append-drop K.width w)) left;
+        spelt = r.spelt ∙ ap₂ (λ u v. ENTRY ∷ (u ++ v)) (sym (take-append-drop K.width w)) left;
         reads = (q.0, o.0);
         fits = o.1;
       }

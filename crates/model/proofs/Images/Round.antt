@@ -9,9 +9,10 @@ use Rattle.byte_rows.specs.Rows.{in_bytes, number}
 use Rattle.kinds.specs.Kinds.{KeyKind, ValueKind}
 use Rattle.byte_rows.proofs.Numbers.{in_bytes_number}
 use Rattle.byte_rows.proofs.Orders.{same_decides}
+use Rattle.model.specs.declared.commands.TheConstants.{COLLISION, END, HEADER, NODE}
 use Rattle.model.specs.Maps.{Map, Readable}
 use Rattle.model.specs.Tries.{sixteen, leads, at_digit, one, many, branching, Lawful}
-use Rattle.model.specs.Images.{entry, node, root, image}
+use Rattle.model.specs.Images.{header, entry, node, root, image}
 use Rattle.model.specs.Reading.{Read, got, fault, digits_in, prepend, then, each, read_entry, rising, enough, read_parts, read_crowd, read_node, accepted, gather, read_root, end_in, read_end, ended, body_in, read_whole, verdict, judge}
 use Rattle.model.proofs.Images.Lists.{flat, all_to, all_from_mem, filter_passes, total, total_like, length_flat}
 use Rattle.model.proofs.Images.Bits.{bits_of, digits_of_bits, bits_fit, apart_flags}
@@ -84,7 +85,7 @@ module _ (K : KeyKind) (V : ValueKind) where
       let fits : (leb 2 (length m) && leb (length m) 16) ≡ true =
       and_from _ _ (le-leb 2 (length m) l) (le-leb (length m) 16 (crowd_fits K V p m (omega arith) good)) in
       gets_at _ _ m rest
-      (command_runs 0x43 1 (λ w. read_crowd K V p at (number w)) at (length m ∷ []) (flat entry m ++ rest) refl
+      (command_runs COLLISION 1 (λ w. read_crowd K V p at (number w)) at (length m ∷ []) (flat entry m ++ rest) refl
       ∙ (ap (λ n. read_crowd K V p at n (at + (1 + 1)) (flat entry m ++ rest)) alone
       ∙ ap (λ b. cond b (rising K V p (length m) (λ k. true) (at + (1 + 1)) (flat entry m ++ rest)) (fault 9 at)) fits))
       (rising_gets K V p m (λ k. true) good.rises good.reads good.led (all_from_mem _ m (λ s n. refl)) (at + (1 + 1)) rest)
@@ -100,8 +101,8 @@ module _ (K : KeyKind) (V : ValueKind) where
       let test : enough h ss ds ≡ true = enough_from h ss ds (length m) (alone (7 - h) m) l in
       gets_at _ _ (order K (suc h) m) rest
       (ap (λ b. read_node K V (suc h) p at (b ++ rest)) (node_is K h m)
-      ∙ (ap (λ b. read_node K V (suc h) p at (0x4E ∷ (in_bytes 2 x ++ (in_bytes 2 y ++ b)))) (append_assoc bs cs rest)
-      ∙ (command_runs 0x4E 4 (λ w. read_parts K V (read_node K V h) h p at (number (take 2 w)) (number (drop 2 w))) at (in_bytes 2 x ++ in_bytes 2 y) (bs ++ (cs ++ rest)) refl
+      ∙ (ap (λ b. read_node K V (suc h) p at (NODE ∷ (in_bytes 2 x ++ (in_bytes 2 y ++ b)))) (append_assoc bs cs rest)
+      ∙ (command_runs NODE 4 (λ w. read_parts K V (read_node K V h) h p at (number (take 2 w)) (number (drop 2 w))) at (in_bytes 2 x ++ in_bytes 2 y) (bs ++ (cs ++ rest)) refl
       ∙ (ap₂ (λ u v. read_parts K V (read_node K V h) h p at u v (at + (1 + 4)) (bs ++ (cs ++ rest)))
       (in_bytes_number 2 x (bits_fit (λ g. one (part g)))) (in_bytes_number 2 y (bits_fit (λ g. many (part g))))
       ∙ parts_run (read_node K V h) h p at x y (at + (1 + 4)) (bs ++ (cs ++ rest)) ss ds
@@ -119,28 +120,28 @@ module _ (K : KeyKind) (V : ValueKind) where
       to rest))
 
 module _ (K : KeyKind) (V : ValueKind) where
-  root_gets : (m : Map) → Lawful K V m → (at : ℕ) (rest : List ℕ) → Gets (read_root K V at (root K m ++ (0x5A ∷ rest))) (order K 8 m) (0x5A ∷ rest)
-  root_gets [] law at rest = (at, ap (λ l. got l at (0x5A ∷ rest)) (sym (nil_from_length (order K 8 []) (length_order K 8 []))))
+  root_gets : (m : Map) → Lawful K V m → (at : ℕ) (rest : List ℕ) → Gets (read_root K V at (root K m ++ (END ∷ rest))) (order K 8 m) (END ∷ rest)
+  root_gets [] law at rest = (at, ap (λ l. got l at (END ∷ rest)) (sym (nil_from_length (order K 8 []) (length_order K 8 []))))
   root_gets (s ∷ m) law at rest =
       node_gets K V 8 [] (s ∷ m) refl
-      (record { led = all_from_mem _ (s ∷ m) (λ t n. refl); reads = law.reads; rises = law.rises; uncrowded = law.uncrowded }) (omega arith) at (0x5A ∷ rest)
+      (record { led = all_from_mem _ (s ∷ m) (λ t n. refl); reads = law.reads; rises = law.rises; uncrowded = law.uncrowded }) (omega arith) at (END ∷ rest)
 
-  end_runs : (n at : ℕ) → n < 2 ^ 32 → read_end n at (0x5A ∷ in_bytes 4 n) ≡ got [] (at + (1 + 4)) []
+  end_runs : (n at : ℕ) → n < 2 ^ 32 → read_end n at (END ∷ in_bytes 4 n) ≡ got [] (at + (1 + 4)) []
   end_runs n at h =
-      ap (λ l. read_end n at (0x5A ∷ l)) (sym (append-nil (in_bytes 4 n)))
-      ∙ (command_runs 0x5A 4 (end_in n at) at (in_bytes 4 n) [] refl
+      ap (λ l. read_end n at (END ∷ l)) (sym (append-nil (in_bytes 4 n)))
+      ∙ (command_runs END 4 (end_in n at) at (in_bytes 4 n) [] refl
       ∙ ap (λ b. cond b (got [] (at + (1 + 4)) []) (fault 9 at)) (eq-eqb _ n (in_bytes_number 4 n h)))
 
   -- the image of a lawful map is accepted as that map
   pub round_trip : (m : Map) → Lawful K V m → judge K V (image K V m) ≡ accepted m
   round_trip m law =
-      let body : List ℕ = root K m ++ (0x5A ∷ in_bytes 4 (length m)) in
-      let g : Gets (read_root K V (0 + (1 + 3)) body) (order K 8 m) (0x5A ∷ in_bytes 4 (length m)) = root_gets m law (0 + (1 + 3)) (in_bytes 4 (length m)) in
+      let body : List ℕ = root K m ++ (END ∷ in_bytes 4 (length m)) in
+      let g : Gets (read_root K V (0 + (1 + 3)) body) (order K 8 m) (END ∷ in_bytes 4 (length m)) = root_gets m law (0 + (1 + 3)) (in_bytes 4 (length m)) in
       let head : read_whole K V (image K V m) ≡ ended (read_root K V (0 + (1 + 3)) body) =
-      command_runs 0x56 3 (body_in K V) 0 (4 ∷ (K.code ∷ (V.code ∷ []))) body refl
-      ∙ ap (λ b. cond b (ended (read_root K V (0 + (1 + 3)) body)) (fault 7 0)) ((same_decides (4 ∷ (K.code ∷ (V.code ∷ []))) _).1 refl) in
-      let tail : read_end (length (order K 8 m)) g.0 (0x5A ∷ in_bytes 4 (length m)) ≡ got [] (g.0 + (1 + 4)) [] =
-      ap (λ n. read_end n g.0 (0x5A ∷ in_bytes 4 (length m))) (length_order K 8 m) ∙ end_runs (length m) g.0 law.counted in
+      command_runs HEADER 3 (body_in K V) 0 (header K V) body refl
+      ∙ ap (λ b. cond b (ended (read_root K V (0 + (1 + 3)) body)) (fault 7 0)) ((same_decides (header K V) _).1 refl) in
+      let tail : read_end (length (order K 8 m)) g.0 (END ∷ in_bytes 4 (length m)) ≡ got [] (g.0 + (1 + 4)) [] =
+      ap (λ n. read_end n g.0 (END ∷ in_bytes 4 (length m))) (length_order K 8 m) ∙ end_runs (length m) g.0 law.counted in
       ap (verdict K) (head ∙ (ap ended g.1 ∙ ap (prepend (order K 8 m)) tail))
       ∙ (ap (λ l. accepted (gather K l)) (append-nil (order K 8 m))
       ∙ ap accepted (gather_order K 8 m law.rises (all_to (Readable K V) (KeyReads K) (λ s r. r.0) m law.reads)))

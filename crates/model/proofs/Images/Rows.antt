@@ -6,6 +6,7 @@ use Rattle.std.proofs.lemmas.List.{length-append}
 use Rattle.byte_rows.specs.Rows.{byte_row, in_bytes}
 use Rattle.kinds.specs.Kinds.{KeyKind, ValueKind}
 use Rattle.byte_rows.proofs.Numbers.{in_bytes_row}
+use Rattle.model.specs.declared.commands.TheConstants.{END}
 use Rattle.model.specs.Maps.{Map, Readable}
 use Rattle.model.specs.Tries.{sixteen, at_digit, one, many, branching, Lawful}
 use Rattle.model.specs.Images.{entry, node, root, image}
@@ -52,4 +53,4 @@ module _ (K : KeyKind) (V : ValueKind) where
   row_image m law =
       and_from (ltb K.code 256) _ (lt-ltb K.code 256 K.code_fits)
       (and_from (ltb V.code 256) _ (lt-ltb V.code 256 V.code_fits)
-      (row_append (root K m) (0x5A ∷ in_bytes 4 (length m)) (row_root m law) (in_bytes_row 4 (length m))))
+      (row_append (root K m) (END ∷ in_bytes 4 (length m)) (row_root m law) (in_bytes_row 4 (length m))))

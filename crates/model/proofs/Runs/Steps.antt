@@ -4,6 +4,7 @@ use Rattle.std.specs.List.{AllByRecursion}
 use Rattle.std.proofs.lemmas.Bool.{and_parts, leb-true}
 use Rattle.kinds.specs.Kinds.{KeyKind, ValueKind}
 use Rattle.kinds.specs.Refusals as refusals
+use Rattle.model.specs.declared.limits.TheConstants.{PLACES}
 use Rattle.model.specs.Maps.{Map, put, remove, union, merge, Sound}
 use Rattle.model.specs.Tries.{crowded, Uncrowded}
 use Rattle.model.specs.Images.{image}
@@ -32,7 +33,7 @@ module _ (K : KeyKind) (V : ValueKind) (a : Account) where
   -- Q holds of an outcome, past each way in which the call is refused
   module _ (Q : Outcome → Type 0) (refusal : (n : ℕ) → Q (refuse K V a n)) where
     pub past_place : (i : ℕ) (o : Outcome) → Q o → Q (on_place K V a i o)
-    past_place i o q = go (ltb 63 i)
+    past_place i o q = go (leb PLACES i)
       where
         go : (b : Bool) → Q (cond b (refuse K V a 3) o)
         go true = refusal 3

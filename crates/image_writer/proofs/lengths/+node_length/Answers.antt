@@ -5,11 +5,11 @@ use Rattle.image_writer.proofs.lengths.+node_length.Goals.{then-level-eq0, else-
 
 pub overflow_mul-length : goal.overflow_mul-length
 overflow_mul-length g t c =
-    omega (arith, singles_small _ g.V.Value.kind _ _ _ _ _ _ c.byte_width.result c.byte_width-2.result c.requires c.singles.ensures (c.byte_width.ensures ∙ g.met.K.Key.coded.1) (c.byte_width-2.ensures ∙ g.met.V.Value.coded.1))
+    omega (arith, singles_small _ g.V.Value.kind _ _ _ _ _ _ c.WIDTH.result c.WIDTH-2.result c.requires c.singles.ensures (c.WIDTH.ensures ∙ g.met.K.Key.coded.1) (c.WIDTH-2.ensures ∙ g.met.V.Value.coded.1))
 
 pub overflow_add-length : goal.overflow_add-length
 overflow_add-length g t c =
-    let entries = singles_small _ g.V.Value.kind _ _ _ _ _ _ c.byte_width.result c.byte_width-2.result c.requires c.singles.ensures (c.byte_width.ensures ∙ g.met.K.Key.coded.1) (c.byte_width-2.ensures ∙ g.met.V.Value.coded.1) in
+    let entries = singles_small _ g.V.Value.kind _ _ _ _ _ _ c.WIDTH.result c.WIDTH-2.result c.requires c.singles.ensures (c.WIDTH.ensures ∙ g.met.K.Key.coded.1) (c.WIDTH-2.ensures ∙ g.met.V.Value.coded.1) in
     elim c.if-level-eq0.branch [ then-level-eq0 w ↦ omega (arith, entries) | else-level-eq0 w ↦ omega (arith, entries) ]
 
 pub node_length-length-requires : goal.node_length-length-requires

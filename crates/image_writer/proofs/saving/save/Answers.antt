@@ -31,5 +31,5 @@ put_u32-requires g c =
 pub returns : goal.returns
 returns g c =
     saved_whole _ _ _ _ _ _ _ _ _ _ _ _ _ _ _ _ _ _
-    (c.code_byte.ensures ∙ g.met.K.Key.coded.0) (c.code_byte-2.ensures ∙ g.met.V.Value.coded.0) c.count-number.ensures
+    (c.CODE.ensures ∙ g.met.K.Key.coded.0) (c.CODE-2.ensures ∙ g.met.V.Value.coded.0) c.count-number.ensures
     c.put_row-root_at.ensures c.put_root-end_at.ensures c.put_byte-number_at.ensures c.put_u32.ensures
