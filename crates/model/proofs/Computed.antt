@@ -19,5 +19,14 @@ worked = record {
   larger_offset_wins = refl;
   larger_stamp_wins = refl;
   both_changed = refl;
+  three_are_named = (refl, (refl, refl));
+  in_one_order = refl;
+  in_another_order = refl;
+  bracketed = refl;
+  with_repetitions = refl;
+  one_image = (refl, (refl, refl));
+  some_image = refl;
+  names_kept = refl;
+  named_anew = refl;
   one_removed = refl;
 }

@@ -6,7 +6,9 @@ use Rattle.kinds.specs.Kinds.{KeyKind, ValueKind}
 use Rattle.model.specs.Images.{image}
 use Rattle.model.specs.Sharing.{Marked}
 use Rattle.model.specs.Accounts.{Version, Account, held_entries}
-use Rattle.model.specs.Runs.{live, Reached, LiveMapsAreLawful, MarkedNodesAreTheTrie, MarkedEntriesAreTheKeys, MarksAreNumbersOfCalls, HeldThingsCanBeListed, TablesHoldAll, EqualImagesMeanEqualMaps, FreeIsWhatNoVersionHolds, SameNamesMeanOneImage, MergeIsSymmetric}
+use Rattle.model.specs.Runs.{live, Reached, LiveMapsAreLawful, MarkedNodesAreTheTrie, MarkedEntriesAreTheKeys, MarksAreNumbersOfCalls, HeldThingsCanBeListed, TablesHoldAll, EqualImagesMeanEqualMaps, FreeIsWhatNoVersionHolds, SameNamesMeanOneImage, SavesWriteTheImage, CompareSaysWhetherMapsAreEqual, AcceptedMergesLeaveAVersion, MergeIsSymmetric}
+use Rattle.model.specs.Laws.{LawsOfRuns}
+use Rattle.model.specs.Names.{NamesFollowTheCalls, PublishedVersionsAreGathered}
 use Rattle.model.proofs.Counts.{distinct_within, distinct_length, in_row_member, member_in_row}
 use Rattle.model.proofs.Holding.{live_held}
 use Rattle.model.proofs.Images.Exact.{exact}
@@ -14,7 +16,9 @@ use Rattle.model.proofs.Images.Round.{same_image}
 use Rattle.model.proofs.Reached.{live_marked, reached_fits}
 use Rattle.model.proofs.Room.{can_list, held_fits, free_is_left}
 use Rattle.model.proofs.Runs.Invariants.{live_sound, live_uncrowded}
-use Rattle.model.proofs.Runs.Merges.{merge_symmetric}
+use Rattle.model.proofs.Runs.Gathering.{names as names_follow, gathered as published_gathered}
+use Rattle.model.proofs.Runs.Live.{saves as save_answers, compares as compare_answers}
+use Rattle.model.proofs.Runs.Merges.{merges_leave, merge_symmetric}
 use Rattle.model.proofs.Runs.Names.{same_names}
 use Rattle.model.proofs.Sizes.{marks_differ, settings_counted}
 
@@ -62,8 +66,42 @@ module _ (K : KeyKind) (V : ValueKind) where
   pub free_cells : FreeIsWhatNoVersionHolds K V
   free_cells a r nodes entries ln le = let f = reached_fits K V (exact K V) a r in free_is_left K V a nodes entries ln le f.nodes f.entries
 
+  pub saves : SavesWriteTheImage K V
+  saves = save_answers K V (exact K V)
+
+  pub compares : CompareSaysWhetherMapsAreEqual K V
+  compares = compare_answers K V (exact K V)
+
+  pub names : NamesFollowTheCalls K V
+  names = names_follow K V (exact K V)
+
+  pub gathered : PublishedVersionsAreGathered K V
+  gathered = published_gathered K V (exact K V)
+
+  pub merges : AcceptedMergesLeaveAVersion K V
+  merges = merges_leave K V
+
   pub one_image : SameNamesMeanOneImage K V
   one_image = same_names K V (exact K V)
 
   pub symmetric : MergeIsSymmetric K V
   symmetric = merge_symmetric K V (exact K V)
+
+  pub laws : LawsOfRuns K V
+  laws = record {
+    lawful = lawful;
+    trie = trie;
+    keys = keys;
+    marks = marks;
+    saves = saves;
+    compares = compares;
+    equal_images = equal_images;
+    listed = listed;
+    fits = fits;
+    free_cells = free_cells;
+    names = names;
+    gathered = gathered;
+    one_image = one_image;
+    merges = merges;
+    symmetric = symmetric;
+  }

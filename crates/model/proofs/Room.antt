@@ -1,12 +1,11 @@
 -- What is held fits the tables, call after call, and free is what is left. Assumes nothing.
-use Rattle.std.proofs.Common.{◌≡◌, ℕ, ◌+◌, ◌-◌, ◌≤◌, true, ◌||◌, ◌⊎◌, List, ◌++◌, length, set, Some, sym, ◌∙◌, inl, inr, arith}
+use Rattle.std.proofs.Common.{◌≡◌, ℕ, ◌+◌, ◌-◌, ◌≤◌, true, ◌||◌, ◌⊎◌, List, ◌++◌, length, set, Some, sym, refl, ◌∙◌, inl, inr, arith}
 use mathlib.Core.List.{Memᴰ}
 use Rattle.std.proofs.lemmas.Bool.{or_left, or_right}
 use Rattle.kinds.specs.Kinds.{KeyKind, ValueKind}
 use Rattle.model.specs.Sharing.{Marked}
-use Rattle.model.specs.Accounts.{Version, Place, Account, in_row, distinct, held_nodes, held_entries}
-use Rattle.model.specs.Calls.{spare, outcome, Free}
-use Rattle.model.specs.Runs.{live, ListsOnce, HoldsNode, HoldsEntry}
+use Rattle.model.specs.Accounts.{Version, Place, Account, in_row, distinct, held_nodes, held_entries, free_nodes, free_entries}
+use Rattle.model.specs.Runs.{live, ListsOnce, HoldsNode, HoldsEntry, FreeBeside}
 use Rattle.model.proofs.Counts.{in_append, in_row_member, member_in_row, distinct_within, counted_once, once, in_once, once_differ}
 use Rattle.model.proofs.Holding.{held, of_place, held_set, live_held, held_live}
 
@@ -59,8 +58,11 @@ module _ (K : KeyKind) (V : ValueKind) (a : Account) (nodes entries : List Marke
   pub held_fits : (length nodes ≤ a.node_cells) × (length entries ≤ a.entry_cells)
   held_fits = (omega (arith, node_count, nodes_fit), omega (arith, entry_count, entries_fit))
 
-  pub free_is_left : (n e : ℕ) → (outcome K V a Free).answer ≡ spare n e → (n + length nodes ≡ a.node_cells) × (e + length entries ≡ a.entry_cells)
-  free_is_left n e answered =
-      let en : a.node_cells - distinct (held_nodes a.places) ≡ n = cc in
-      let ee : a.entry_cells - distinct (held_entries a.places) ≡ e = cc in
-      (omega (arith, node_count, nodes_fit, en), omega (arith, entry_count, entries_fit, ee))
+  pub free_is_left : FreeBeside K V a nodes entries
+  free_is_left = record {
+    free_nodes = free_nodes a;
+    free_entries = free_entries a;
+    answer_is = refl;
+    nodes_are = omega (arith, node_count, nodes_fit);
+    entries_are = omega (arith, entry_count, entries_fit);
+  }

@@ -1,5 +1,5 @@
 -- The worked cases, over the kinds at hand. Assumes nothing.
-use Rattle.std.specs.Prelude.{◌≡◌, ℕ, [], ◌∷◌, ◌++◌, map, length, replicate, ℤ, pos, negsuc}
+use Rattle.std.specs.Prelude.{◌≡◌, ℕ, true, List, [], ◌∷◌, ◌++◌, map, length, replicate, is_some, Some, None, Option, ℤ, pos, negsuc}
 use Rattle.byte_rows.specs.Rows.{in_bytes}
 use Rattle.byte_rows.specs.Joins.{stamped}
 use Rattle.byte_rows.specs.Texts.{filled}
@@ -10,8 +10,9 @@ use Rattle.model.specs.Maps.{Setting, Map, merge}
 use Rattle.model.specs.Tries.{parts, one, many, at_digit}
 use Rattle.model.specs.Images.{bits, image}
 use Rattle.model.specs.Sharing.{shared}
-use Rattle.model.specs.Accounts.{fresh}
-use Rattle.model.specs.Calls.{Call, Open, Put, Free, done, took, spare, refused, answers}
+use Rattle.model.specs.Accounts.{Account, fresh}
+use Rattle.model.specs.Calls.{Call, Open, OpenFrom, Put, Union, Publish, Free, done, took, spare, refused, run, answers}
+use Rattle.model.specs.Runs.{live}
 
 -- ids with registers and limits, bobbins with limits
 abbrev pub id_register : ℕ → ℕ → ℤ → Setting
@@ -32,6 +33,37 @@ put_id i n = Put 0 (in_bytes 4 i) (in_bytes 4 n)
 
 abbrev pub put_bobbin : ℕ → Call
 put_bobbin b = Put 0 (in_bytes 1 b) (in_bytes 4 0)
+
+-- ---- three published versions, and what is gathered from them
+
+abbrev pub put_at : ℕ → ℕ → ℕ → Call
+put_at p i n = Put p (in_bytes 4 i) (in_bytes 4 n)
+
+-- calls 1 to 9: a version with one id at each of the places 0, 1 and 2
+abbrev pub publish_three : List Call
+publish_three = Open 0 ∷ put_at 0 1 5 ∷ Publish 0 ∷ Open 1 ∷ put_at 1 2 6 ∷ Publish 1 ∷ Open 2 ∷ put_at 2 3 7 ∷ Publish 2 ∷ []
+
+-- united in one order at place 3, in another at place 4; bracketed otherwise at place 6, by way of 5; and with repetitions at place 7
+abbrev pub unite_three : List Call
+unite_three =
+    (Open 3 ∷ Union 3 0 ∷ Union 3 1 ∷ Union 3 2 ∷ Publish 3 ∷ [])
+    ++ (Open 4 ∷ Union 4 2 ∷ Union 4 0 ∷ Union 4 1 ∷ Publish 4 ∷ [])
+    ++ (Open 5 ∷ Union 5 1 ∷ Union 5 2 ∷ Publish 5 ∷ Open 6 ∷ Union 6 0 ∷ Union 6 5 ∷ Publish 6 ∷ [])
+    ++ (OpenFrom 7 5 ∷ Union 7 0 ∷ Union 7 5 ∷ Union 7 0 ∷ Publish 7 ∷ [])
+
+-- opened from what place 3 has and published unchanged, at place 8; united with a put in between, at place 9
+abbrev pub publish_more : List Call
+publish_more = OpenFrom 8 3 ∷ Publish 8 ∷ Open 9 ∷ Union 9 0 ∷ Union 9 1 ∷ put_at 9 3 7 ∷ Union 9 2 ∷ Publish 9 ∷ []
+
+abbrev pub gathered_account : Account
+gathered_account = run id_kind limit_kind (fresh 40 20) (publish_three ++ unite_three ++ publish_more)
+
+-- what the version at a place is gathered from, and its image; none where nothing is live
+abbrev pub names_at : Account → ℕ → Option (List ℕ)
+names_at a i = elim (live a i) [ Some v ↦ v.names | None ↦ None ]
+
+abbrev pub image_at : Account → ℕ → Option (List ℕ)
+image_at a i = elim (live a i) [ Some v ↦ Some (image id_kind limit_kind v.settings) | None ↦ None ]
 
 pub record WorkedCases : Type 0 where
   pub path_a_hashes : path_kind.hash (filled 24 (0x61 ∷ [])) ≡ 0xE40C292C
@@ -55,4 +87,18 @@ pub record WorkedCases : Type 0 where
   pub larger_stamp_wins : register_kind.join (stamped 7 (pos 2)) (stamped 8 (negsuc 8)) ≡ stamped 8 (negsuc 8)
   -- over a base of 10, ours 12 and theirs 15 give 15; ours absent and theirs 10 give absent
   pub both_changed : merge id_kind limit_kind (id_limit 1 12 ∷ []) (id_limit 1 10 ∷ []) (id_limit 1 15 ∷ []) ≡ id_limit 1 15 ∷ []
+  pub three_are_named : (names_at gathered_account 0 ≡ Some (3 ∷ [])) × ((names_at gathered_account 1 ≡ Some (6 ∷ [])) × (names_at gathered_account 2 ≡ Some (9 ∷ [])))
+  -- in either order and bracketing, and with repetitions, a union is gathered from the same three
+  pub in_one_order : names_at gathered_account 3 ≡ Some (3 ∷ 6 ∷ 9 ∷ [])
+  pub in_another_order : names_at gathered_account 4 ≡ Some (9 ∷ 3 ∷ 6 ∷ [])
+  pub bracketed : names_at gathered_account 6 ≡ Some (3 ∷ 6 ∷ 9 ∷ [])
+  pub with_repetitions : names_at gathered_account 7 ≡ Some (6 ∷ 9 ∷ 3 ∷ 6 ∷ 9 ∷ 3 ∷ [])
+  -- and has one image
+  pub one_image :
+      (image_at gathered_account 4 ≡ image_at gathered_account 3)
+      × ((image_at gathered_account 6 ≡ image_at gathered_account 3) × (image_at gathered_account 7 ≡ image_at gathered_account 3))
+  pub some_image : is_some (image_at gathered_account 3) ≡ true
+  -- what is opened and published unchanged keeps its names, and what had a put is named by its own publishing
+  pub names_kept : names_at gathered_account 8 ≡ Some (3 ∷ 6 ∷ 9 ∷ [])
+  pub named_anew : names_at gathered_account 9 ≡ Some (40 ∷ [])
   pub one_removed : merge id_kind limit_kind [] (id_limit 1 10 ∷ []) (id_limit 1 10 ∷ []) ≡ []

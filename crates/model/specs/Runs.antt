@@ -1,5 +1,5 @@
 -- Accounts that a new store comes to by a list of calls, and what holds of each, over any kinds. Assumes nothing.
-use Rattle.std.specs.Prelude.{◌≡◌, ℕ, ◌+◌, ◌≤◌, true, List, [], ◌∷◌, map, length, is_some, Some, None, Option}
+use Rattle.std.specs.Prelude.{◌≡◌, ℕ, ◌+◌, ◌<◌, ◌≤◌, Bool, true, ◌↔◌, List, [], ◌∷◌, ◌++◌, map, length, is_some, Some, None, Option, IsTrue}
 use mathlib.Core.List.{Memᴰ}
 use Rattle.byte_rows.specs.Rows.{byte_row}
 use Rattle.kinds.specs.Kinds.{KeyKind, ValueKind}
@@ -9,7 +9,8 @@ use Rattle.model.specs.Tries.{has_node, Lawful}
 use Rattle.model.specs.Images.{image}
 use Rattle.model.specs.Sharing.{Marked}
 use Rattle.model.specs.Accounts.{Version, empty, draft, published, Account, fresh, nth}
-use Rattle.model.specs.Calls.{Call, Open, OpenFrom, Put, Remove, Union, Merge, Publish, Abandon, Retire, Load, LookUp, Count, Compare, Save, Free, took, spare, outcome, after, run}
+use Rattle.kinds.specs.Refusals as refusals
+use Rattle.model.specs.Calls.{Call, Open, OpenFrom, Put, Remove, Union, Merge, Publish, Abandon, Retire, Load, LookUp, Count, Compare, Save, Free, took, equal, saved, spare, refused, outcome, after, run}
 
 -- the version at a place, if the place is live
 abbrev pub live : Account → ℕ → Option Version
@@ -33,6 +34,9 @@ Made K V (Compare i j) = Unit {0}
 Made K V (Save i n) = Unit {0}
 Made K V Free = Unit {0}
 
+abbrev pub AllMade : KeyKind → ValueKind → List Call → Type 0
+AllMade K V calls = (c : Call) → Memᴰ c calls → Made K V c
+
 -- an account that a new store, over tables of at most 65,535 cells, comes to by some list of calls
 pub record Reached (K : KeyKind) (V : ValueKind) (a : Account) : Type 0 where
   pub nodes : ℕ
@@ -40,7 +44,7 @@ pub record Reached (K : KeyKind) (V : ValueKind) (a : Account) : Type 0 where
   pub few_nodes : nodes ≤ MOST_CELLS
   pub few_entries : entries ≤ MOST_CELLS
   pub calls : List Call
-  pub all_made : (c : Call) → Memᴰ c calls → Made K V c
+  pub all_made : AllMade K V calls
   pub comes : run K V (fresh nodes entries) calls ≡ a
 
 -- ---- rows that list things once
@@ -108,11 +112,32 @@ EqualImagesMeanEqualMaps K V =
     (a b : Account) → Reached K V a → Reached K V b → (i j : ℕ) (v w : Version) → live a i ≡ Some v → live b j ≡ Some w →
     (image K V v.settings ≡ image K V w.settings → v.settings ≡ w.settings) × (v.settings ≡ w.settings → image K V v.settings ≡ image K V w.settings)
 
+-- the free nodes and entries that are answered, beside the ones held, are the cells lent
+pub record FreeBeside (K : KeyKind) (V : ValueKind) (a : Account) (nodes entries : List Marked) : Type 0 where
+  pub free_nodes : ℕ
+  pub free_entries : ℕ
+  pub answer_is : (outcome K V a Free).answer ≡ spare free_nodes free_entries
+  pub nodes_are : free_nodes + length nodes ≡ a.node_cells
+  pub entries_are : free_entries + length entries ≡ a.entry_cells
+
 -- free answers the cells lent less the distinct nodes, and entries, that live versions hold
 abbrev pub FreeIsWhatNoVersionHolds : KeyKind → ValueKind → Type 0
 FreeIsWhatNoVersionHolds K V =
     (a : Account) → Reached K V a → (nodes entries : List Marked) → ListsOnce (HoldsNode a) nodes → ListsOnce (HoldsEntry a) entries →
-    (n e : ℕ) → (outcome K V a Free).answer ≡ spare n e → (n + length nodes ≡ a.node_cells) × (e + length entries ≡ a.entry_cells)
+    FreeBeside K V a nodes entries
+
+-- the image of a live version is what save writes into a buffer that it fits in; a shorter one is refused with 12
+abbrev pub SavesWriteTheImage : KeyKind → ValueKind → Type 0
+SavesWriteTheImage K V =
+    (a : Account) → Reached K V a → (i : ℕ) (v : Version) → live a i ≡ Some v → (capacity : ℕ) →
+    (length (image K V v.settings) ≤ capacity → (outcome K V a (Save i capacity)).answer ≡ saved (image K V v.settings))
+    × (capacity < length (image K V v.settings) → (outcome K V a (Save i capacity)).answer ≡ refused (refusals.refused 12))
+
+-- compare answers yes exactly if the maps of two live versions are equal
+abbrev pub CompareSaysWhetherMapsAreEqual : KeyKind → ValueKind → Type 0
+CompareSaysWhetherMapsAreEqual K V =
+    (a : Account) → Reached K V a → (i j : ℕ) (v w : Version) → live a i ≡ Some v → live a j ≡ Some w →
+    (yes : Bool) × (((outcome K V a (Compare i j)).answer ≡ equal yes) × (IsTrue yes ↔ (v.settings ≡ w.settings)))
 
 -- live versions gathered from one set of names have one image
 abbrev pub SameNamesMeanOneImage : KeyKind → ValueKind → Type 0
@@ -120,13 +145,44 @@ SameNamesMeanOneImage K V =
     (a : Account) → Reached K V a → (i j : ℕ) (v w : Version) → live a i ≡ Some v → live a j ≡ Some w →
     (x y : List ℕ) → v.names ≡ Some x → w.names ≡ Some y → SameNames x y → image K V v.settings ≡ image K V w.settings
 
--- two accepted merges over one base, with ours and theirs swapped, leave one image, in one store or in two
+-- ---- merges
+
+-- the versions at the places of a merge, before and after it
+pub record Merged (K : KeyKind) (V : ValueKind) (a : Account) (i b t : ℕ) : Type 0 where
+  pub ours : Version
+  pub base : Version
+  pub theirs : Version
+  pub result : Version
+  pub ours_is : nth a.places i ≡ draft ours
+  pub base_is : nth a.places b ≡ published base
+  pub theirs_is : nth a.places t ≡ published theirs
+  pub result_is : nth (after K V a (Merge i b t)).places i ≡ draft result
+
+-- an accepted merge has them
+abbrev pub AcceptedMergesLeaveAVersion : KeyKind → ValueKind → Type 0
+AcceptedMergesLeaveAVersion K V =
+    (a : Account) → Reached K V a → (i b t n e : ℕ) → (outcome K V a (Merge i b t)).answer ≡ took n e → Merged K V a i b t
+
+-- an accepted merge, somewhere in a list of calls on a new store
+pub record MergeIn (K : KeyKind) (V : ValueKind) (calls : List Call) : Type 0 where
+  pub nodes : ℕ
+  pub entries : ℕ
+  pub few_nodes : nodes ≤ MOST_CELLS
+  pub few_entries : entries ≤ MOST_CELLS
+  pub before : List Call
+  pub ours_at : ℕ
+  pub base_at : ℕ
+  pub theirs_at : ℕ
+  pub rest : List Call
+  pub calls_are : calls ≡ before ++ (Merge ours_at base_at theirs_at ∷ rest)
+  pub new_nodes : ℕ
+  pub new_entries : ℕ
+  pub accepted : (outcome K V (run K V (fresh nodes entries) before) (Merge ours_at base_at theirs_at)).answer ≡ took new_nodes new_entries
+  pub merged : Merged K V (run K V (fresh nodes entries) before) ours_at base_at theirs_at
+
+-- two accepted merges over equal bases, with ours and theirs swapped, leave equal images, wherever in one list of calls or in two they are
 abbrev pub MergeIsSymmetric : KeyKind → ValueKind → Type 0
 MergeIsSymmetric K V =
-    (a b : Account) → Reached K V a → Reached K V b → (i p t j q u : ℕ) (ours base theirs ours' base' theirs' result result' : Version) →
-    live a i ≡ Some ours → live a p ≡ Some base → live a t ≡ Some theirs →
-    live b j ≡ Some ours' → live b q ≡ Some base' → live b u ≡ Some theirs' →
-    base.settings ≡ base'.settings → ours.settings ≡ theirs'.settings → theirs.settings ≡ ours'.settings →
-    ((n e : ℕ) × ((outcome K V a (Merge i p t)).answer ≡ took n e)) → ((n e : ℕ) × ((outcome K V b (Merge j q u)).answer ≡ took n e)) →
-    live (after K V a (Merge i p t)) i ≡ Some result → live (after K V b (Merge j q u)) j ≡ Some result' →
-    image K V result.settings ≡ image K V result'.settings
+    (calls others : List Call) → AllMade K V calls → AllMade K V others → (x : MergeIn K V calls) (y : MergeIn K V others) →
+    x.merged.base.settings ≡ y.merged.base.settings → x.merged.ours.settings ≡ y.merged.theirs.settings → x.merged.theirs.settings ≡ y.merged.ours.settings →
+    image K V x.merged.result.settings ≡ image K V y.merged.result.settings

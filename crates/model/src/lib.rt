@@ -6,7 +6,7 @@
 ghost use Rattle.model.specs.Cases.{WorkedCases};
 ghost use Rattle.model.specs.Maps.{LookUpsSayAll, PutSetsOneKey, RemoveClearsOneKey, UnionJoinsEachKey, MergeDecidesEachKey, UnionIsAssociative, UnionIsCommutative, UnionIsIdempotent, UnionIsMergeOverNothing, MergeFavoursNoSide};
 ghost use Rattle.model.specs.Reading.{ImagesReadBack, OnlyImagesAreAccepted, EqualImagesAreOfEqualMaps};
-ghost use Rattle.model.specs.Runs.{LiveMapsAreLawful, MarkedNodesAreTheTrie, MarkedEntriesAreTheKeys, MarksAreNumbersOfCalls, HeldThingsCanBeListed, TablesHoldAll, EqualImagesMeanEqualMaps, FreeIsWhatNoVersionHolds, SameNamesMeanOneImage, MergeIsSymmetric};
+ghost use Rattle.model.specs.Laws.{LawsOfRuns};
 
 mod commands;
 mod limits;
@@ -38,16 +38,7 @@ pub fn images_stand<K: Key, V: Value>()
 
 // What holds after every list of calls on a new store.
 pub fn runs_stand<K: Key, V: Value>()
-    ensures lawful { LiveMapsAreLawful K.kind V.kind }
-    ensures trie { MarkedNodesAreTheTrie K.kind V.kind }
-    ensures keys { MarkedEntriesAreTheKeys K.kind V.kind }
-    ensures marks { MarksAreNumbersOfCalls K.kind V.kind }
-    ensures listed { HeldThingsCanBeListed K.kind V.kind }
-    ensures fits { TablesHoldAll K.kind V.kind }
-    ensures equal_images { EqualImagesMeanEqualMaps K.kind V.kind }
-    ensures free_cells { FreeIsWhatNoVersionHolds K.kind V.kind }
-    ensures one_image { SameNamesMeanOneImage K.kind V.kind }
-    ensures symmetric { MergeIsSymmetric K.kind V.kind }
+    ensures { LawsOfRuns K.kind V.kind }
 {}
 
 // The worked cases: hashes, images, tries, cells taken, refusals, joins and merges.

@@ -6,6 +6,7 @@ use Rattle.byte_rows.proofs.Orders.{same_tells}
 use Rattle.kinds.specs.Kinds.{KeyKind, ValueKind}
 use Rattle.model.specs.Maps.{Setting, Map, look, put, remove, same_map, decided, merge, Sound}
 use Rattle.model.specs.Tries.{filter, digit, at_digit, sixteen}
+pub use Rattle.model.proofs.Marks.Keys.{same_map_self}
 use Rattle.model.proofs.Maps.Found.{same_self}
 use Rattle.model.proofs.Maps.Order.{sound_equal}
 use Rattle.model.proofs.Maps.Edits.{sound_put, look_put, sound_remove, look_remove, sound_merge, look_merge}
@@ -129,10 +130,6 @@ module _ (K : KeyKind) (V : ValueKind) (d g : ℕ) where
     at_remove_other e = only_remove_other K V (falls K d g) m k good key (ne_eqb (digit (K.hash k) d) g e)
 
 -- ---- a map is what goes on by its digits
-
-pub same_map_self : (m : Map) → same_map m m ≡ true
-same_map_self [] = refl
-same_map_self (s ∷ m) = and_from (same s.key s.key) _ (same_self s.key) (and_from (same s.value s.value) _ (same_self s.value) (same_map_self m))
 
 -- tests that hold at the same time are one
 pub one_test : (a b : Bool) → (a ≡ true → b ≡ true) → (b ≡ true → a ≡ true) → a ≡ b

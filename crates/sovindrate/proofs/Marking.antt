@@ -14,12 +14,11 @@ use Rattle.model.specs.Reading as reading
 use Rattle.model.specs.Sharing.{Shared}
 use Rattle.model.specs.Accounts.{Version, Place, Account, nth, empty, draft, published}
 use Rattle.model.specs.Calls.{Outcome, Answer, after, done, took, found, counted, equal, saved, spare, refused, Open, OpenFrom, Put, Remove, Union, Merge, Publish, Abandon, Retire, Load, LookUp, Count, Compare, Save, now, named, both_names, version, outcome, reply, leave, refuse, result, on_place, on_empty, on_draft, on_published, on_live, on_uncrowded}
-use Rattle.store.specs.declared.calls.Call.{Call}
 use Rattle.store.specs.declared.calls.Answer as store
 use Rattle.store.specs.declared.calls.Call.TheVariants as calls
 use Rattle.store.specs.declared.calls.Answer.TheVariants as replies
 use Rattle.store.specs.declared.calls.Answer.TheVariants.{Done}
-use Rattle.store.specs.Answers.{call_shown, answer_shown}
+use Rattle.store.specs.Answers.{LentCall, call_shown, answer_shown}
 use Rattle.sovindrate.specs.declared.marks.Mark.{Mark}
 use Rattle.sovindrate.specs.declared.marks.Mark.TheVariants.{Empty, Draft, Published}
 use Rattle.sovindrate.specs.Marks.{mark_of, Tell}
@@ -285,11 +284,11 @@ module _ (K : KeyKind) (V : ValueKind) (a : Account) where
 -- ---- the calls as the store has them, an image standing in the buffer bs
 
 module _ {X Y : Type 0} (K : KeyKind) (V : ValueKind) (kb : X → List ℕ) (vb : Y → List ℕ) (a : Account) (bs : List ℕ) where
-  abbrev o : Call X Y → Outcome
+  abbrev o : LentCall X Y → Outcome
   o c = outcome K V a (call_shown kb vb c)
 
   -- a call that is done
-  module _ (old new : List Mark) (c : Call X Y) (r : store.Answer Y) (i : ℕ) (is : r ≡ Done) (told : Tell old a) (same : answer_shown vb bs r ≡ (o c).answer) where
+  module _ (old new : List Mark) (c : LentCall X Y) (r : store.Answer Y) (i : ℕ) (is : r ≡ Done) (told : Tell old a) (same : answer_shown vb bs r ≡ (o c).answer) where
     moved : (m : Mark) → Moves K V a i m (o c) → new ≡ set old i m → Tell new (after K V a (call_shown kb vb c))
     moved m h e =
         e ∙ ap (λ (ms : List Mark). set ms i m) told
@@ -308,7 +307,7 @@ module _ {X Y : Type 0} (K : KeyKind) (V : ValueKind) (kb : X → List ℕ) (vb 
 
   -- a load that took cells
   pub follow_load :
-      (old new : List Mark) (c : Call X Y) (r : store.Answer Y) (i n e : ℕ) (brought : Bor (List ℕ)) → r ≡ replies.Took n e → c ≡ calls.Load i brought →
+      (old new : List Mark) (c : LentCall X Y) (r : store.Answer Y) (i n e : ℕ) (brought : Bor (List ℕ)) → r ≡ replies.Took n e → c ≡ calls.Load i brought →
       Tell old a → answer_shown vb bs r ≡ (o c).answer → new ≡ set old i Published → Tell new (after K V a (call_shown kb vb c))
   follow_load old new c r i n e brought is load told same put =
       put ∙ ap (λ (ms : List Mark). set ms i Published) told
@@ -339,7 +338,7 @@ module _ {X Y : Type 0} (K : KeyKind) (V : ValueKind) (kb : X → List ℕ) (vb 
 
   -- a load leaves each mark where it took no cells, and every other call where it is not done
   still_all :
-      (c : Call X Y) → ((x y : List Mark) → on_done (o c).answer x y ≡ y) →
+      (c : LentCall X Y) → ((x y : List Mark) → on_done (o c).answer x y ≡ y) →
       ((i : ℕ) (brought : Bor (List ℕ)) → c ≡ calls.Load i brought → (x y : List Mark) → on_took (o c).answer x y ≡ y) → Still K V a (o c)
   still_all (calls.Open i) q t = opened K V a i ∙ q _ _
   still_all (calls.OpenFrom i j) q t = opened_from K V a i j ∙ q _ _
@@ -357,7 +356,7 @@ module _ {X Y : Type 0} (K : KeyKind) (V : ValueKind) (kb : X → List ℕ) (vb 
   still_all (calls.Save i room) q t = saved_at K V a i room
   still_all calls.Free q t = refl
 
-  pub follow_other : (old : List Mark) (c : Call X Y) (r : store.Answer Y) → (r ≡ Done → ⊥) → ((n e : ℕ) → r ≡ replies.Took n e → ⊥) → Tell old a →
+  pub follow_other : (old : List Mark) (c : LentCall X Y) (r : store.Answer Y) → (r ≡ Done → ⊥) → ((n e : ℕ) → r ≡ replies.Took n e → ⊥) → Tell old a →
       answer_shown vb bs r ≡ (o c).answer → Tell old (after K V a (call_shown kb vb c))
   follow_other old c r h t told same =
       told
@@ -365,7 +364,7 @@ module _ {X Y : Type 0} (K : KeyKind) (V : ValueKind) (kb : X → List ℕ) (vb 
       (λ i brought is x y. ap (λ z. on_took z x y) (sym same) ∙ took_none r t x y))
 
   -- a call that took cells and is no load
-  pub follow_edit : (old : List Mark) (c : Call X Y) (r : store.Answer Y) (n e : ℕ) → r ≡ replies.Took n e →
+  pub follow_edit : (old : List Mark) (c : LentCall X Y) (r : store.Answer Y) (n e : ℕ) → r ≡ replies.Took n e →
       ((i : ℕ) (brought : Bor (List ℕ)) → c ≡ calls.Load i brought → ⊥) → Tell old a →
       answer_shown vb bs r ≡ (o c).answer → Tell old (after K V a (call_shown kb vb c))
   follow_edit old c r n e is other told same =

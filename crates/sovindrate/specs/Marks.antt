@@ -4,9 +4,8 @@ use Rattle.kinds.specs.Kinds.{KeyKind, ValueKind}
 use Rattle.model.specs.Accounts.{Place, Account}
 use Rattle.model.specs.Accounts as model
 use Rattle.model.specs.Calls.{outcome, after}
-use Rattle.store.specs.declared.calls.Call.{Call}
 use Rattle.store.specs.declared.calls.Answer.{Answer}
-use Rattle.store.specs.Answers.{call_shown, answer_shown}
+use Rattle.store.specs.Answers.{LentCall, call_shown, answer_shown}
 use Rattle.sovindrate.specs.declared.marks.Mark.{Mark}
 use Rattle.sovindrate.specs.declared.marks.Mark.TheVariants.{Empty, Draft, Published}
 
@@ -21,6 +20,6 @@ abbrev pub Tell : List Mark → Account → Type 0
 Tell marks a = marks ≡ map mark_of a.places
 
 -- marks were old and are now new: whichever account they told of, they tell of it after a call that it answers so, an image standing in the buffer bs
-abbrev pub Follow : {X Y : Type 0} → KeyKind → ValueKind → (X → List ℕ) → (Y → List ℕ) → List Mark → List Mark → Call X Y → Answer Y → Type 0
+abbrev pub Follow : {X Y : Type 0} → KeyKind → ValueKind → (X → List ℕ) → (Y → List ℕ) → List Mark → List Mark → LentCall X Y → Answer Y → Type 0
 Follow K V kb vb old new c r =
     (a : Account) (bs : List ℕ) → Tell old a → answer_shown vb bs r ≡ (outcome K V a (call_shown kb vb c)).answer → Tell new (after K V a (call_shown kb vb c))

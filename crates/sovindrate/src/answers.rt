@@ -117,7 +117,7 @@ pub fn write_steps<K: Copy, V: Spelled>(
 pub fn write_account<K: Key, V: Value + Spelled>(
     heap: Global,
     out: &mut String,
-    calls: &[Call<K, V>],
+    calls: &[Call<&[u8], K, V>],
     answers: &[Answered<V>],
     others: usize,
 ) -> Result<(), AllocError> {

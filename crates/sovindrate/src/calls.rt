@@ -22,7 +22,7 @@ pub fn calls_of<'a, K: Copy, V: Copy>(
     heap: Global,
     steps: &'a [Step<'a, K, V>],
     room: usize,
-) -> Result<Vec<Call<'a, K, V>>, AllocError> {
+) -> Result<Vec<Call<&'a [u8], K, V>>, AllocError> {
     let mut calls = Vec::new(heap);
     for step in steps {
         match &step.asks {
@@ -37,7 +37,7 @@ pub fn calls_of<'a, K: Copy, V: Copy>(
 
 // Adds the calls that ask for the account: of each place how many settings it has and its image, and then what is free.
 pub fn ask_account<'a, K: Copy, V: Copy>(
-    calls: &mut Vec<Call<'a, K, V>>,
+    calls: &mut Vec<Call<&'a [u8], K, V>>,
     room: usize,
 ) -> Result<(), AllocError>
     ensures asked { OnOk result (calls.new.items ≡ calls.old.items ++ account_calls room) }

@@ -59,7 +59,7 @@ impl Marks {
     }
 
     // What a call left.
-    pub fn note<K: Key, V: Value>(&mut self, call: &Call<K, V>, answer: &Answer<V>)
+    pub fn note<K: Key, V: Value>(&mut self, call: &Call<&[u8], K, V>, answer: &Answer<V>)
         ensures { Follow K.kind V.kind K.bytes V.bytes self.old.places self.new.places call.now answer.now }
     {
         match answer {

@@ -49,7 +49,7 @@ fn run_over<R: Files + AllocGlobal, K: Key + Spelled, V: Value + Spelled>(
         answers.as_mut_slice(),
         buffer.as_mut_slice(),
     ) {
-        Ok(made) if made < calls.len() => return Err(Fault::Unanswered),
+        Ok(finished) if finished.made < calls.len() => return Err(Fault::Unanswered),
         Ok(_) => {
             let answers = with_images(heap, answers.as_slice(), buffer.as_slice())?;
             let answers = answers.as_slice();
@@ -58,8 +58,8 @@ fn run_over<R: Files + AllocGlobal, K: Key + Spelled, V: Value + Spelled>(
             write_account(heap, &mut out, calls.as_slice(), answers, others)?;
             write_files(rt, steps.as_slice(), answers)?;
         }
-        Err(refusal) => {
-            let number = refusal.number();
+        Err(not_started) => {
+            let number = not_started.refusal.number();
             writeln!(out, "{said}: refused {number}")?;
         }
     }

@@ -57,7 +57,7 @@ pub enum Target<'a> {
 // What a line asks for: a call, but that a load has no image yet, and a save no buffer.
 #[derive(Clone, Copy)]
 pub enum Ask<'a, K, V> {
-    Call(Call<'a, K, V>),
+    Call(Call<&'a [u8], K, V>),
     Load(u32, Source<'a>),
     Save(u32, Target<'a>),
 }
@@ -102,7 +102,7 @@ pub fn ask_of<'a>(words: &[&'a str]) -> Result<Ask<'a, &'a str, &'a str>, &'stat
 }
 
 // The same of the calls that need nothing more.
-fn call_of<'a>(words: &[&'a str]) -> Result<Call<'a, &'a str, &'a str>, &'static str> {
+fn call_of<'a>(words: &[&'a str]) -> Result<Call<&'a [u8], &'a str, &'a str>, &'static str> {
     match words {
         ["open", p] => Ok(Call::Open(place(*p)?)),
         ["open", p, q] => Ok(Call::OpenFrom(place(*p)?, place(*q)?)),

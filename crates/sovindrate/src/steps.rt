@@ -40,8 +40,8 @@ fn parse<T: Spelled>(word: &str) -> Result<Result<T, Refusal>, &'static str> {
 
 // The call with its key and its value, or the refusal of one of them.
 fn spell_call<'a, K: Spelled, V: Spelled>(
-    call: Call<'a, &str, &str>,
-) -> Result<Result<Call<'a, K, V>, Refusal>, &'static str> {
+    call: Call<&'a [u8], &str, &str>,
+) -> Result<Result<Call<&'a [u8], K, V>, Refusal>, &'static str> {
     match call {
         Call::Open(p) => Ok(Ok(Call::Open(p))),
         Call::OpenFrom(p, q) => Ok(Ok(Call::OpenFrom(p, q))),

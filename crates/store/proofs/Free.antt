@@ -45,10 +45,10 @@ module _ {X Y : Type 0} (K : KeyKind) (V : ValueKind) (kb : X → List ℕ) (vb 
   abbrev T : Tables X Y
   T = S.tables
 
-  node_rows : flat_map (λ i. (rep.notes.node i).nodes) (owners S.places) ≡ held_nodes a.places
+  pub node_rows : flat_map (λ i. (rep.notes.node i).nodes) (owners S.places) ≡ held_nodes a.places
   node_rows = show_rows T rep.notes (λ n. n.nodes) (λ b. b.nodes) refl (λ i b h. h.0) S.places a.places rep.shows
 
-  entry_rows : flat_map (λ i. (rep.notes.node i).entries) (owners S.places) ≡ held_entries a.places
+  pub entry_rows : flat_map (λ i. (rep.notes.node i).entries) (owners S.places) ≡ held_entries a.places
   entry_rows = show_rows T rep.notes (λ n. n.entries) (λ b. b.entries) refl (λ i b h. h.1) S.places a.places rep.shows
 
   pub nodes_left : T.spare + distinct (held_nodes a.places) ≡ a.node_cells

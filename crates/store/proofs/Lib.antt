@@ -15,6 +15,7 @@ pub mod Compares
 pub mod Saves
 pub mod Loads
 pub mod Runs
+pub mod Lent
 pub mod Promises
 pub mod Merged
 pub mod Joined

@@ -1,44 +1,95 @@
--- What holds after every list of calls, at one account; and a whole run. Assumes nothing.
-use Rattle.std.proofs.Common.{◌≡◌, ℕ, ◌≤◌, List, length}
+-- A whole run: what holds after it of the calls made, of the tables, and of every list of calls. Assumes nothing.
+use Rattle.std.proofs.Common.{◌≡◌, ℕ, ◌+◌, ◌<◌, ◌≤◌, true, List, [], ◌++◌, map, length, Ok, Err, Result, sym, refl, ◌∙◌, ap, subst, arith, append-nil}
+use Rattle.std.specs.List.{flat_map}
+use Rattle.std.specs.Result.{IsErrAnd}
+use mathlib.Core.List.{Memᴰ}
 use Rattle.kinds.specs.Kinds.{KeyKind, ValueKind}
-use Rattle.model.specs.Accounts.{Account, fresh}
+use Rattle.model.specs.Sharing.{Marked}
+use Rattle.model.specs.Accounts.{Version, Account, in_row, fresh, held_nodes, held_entries}
 use Rattle.model.specs.Calls.{run}
-use Rattle.model.specs.Runs.{Reached}
+use Rattle.model.specs.Runs.{HoldsNode, HoldsEntry}
+use Rattle.model.specs.Laws.{LawsOfRuns}
+use Rattle.model.proofs.Counts.{in_row_member, member_in_row}
+use Rattle.model.proofs.Holding.{held_live, live_held}
 use Rattle.model.proofs.Promises as model
 use Rattle.tables.specs.declared.cells.NodeCell.{NodeCell}
 use Rattle.tables.specs.declared.cells.EntryCell.{EntryCell}
-use Rattle.tables.specs.Starts as tables
-use Rattle.store.specs.declared.calls.Call.{Call}
+use Rattle.tables.specs.Cells.{cell, entry_cell}
+use Rattle.tables.proofs.Reach.{nodes_reached, reached_nodes, entries_reached, reached_entries}
 use Rattle.store.specs.declared.calls.Answer.{Answer}
-use Rattle.store.specs.Stores.{State}
-use Rattle.store.specs.Fresh.{new_state}
-use Rattle.store.specs.Runs.{Promised, first_calls, MadeCalls, Completed}
-use Rattle.store.proofs.Fresh.{starts_fresh}
+use Rattle.store.specs.declared.running.Finished.{Finished}
+use Rattle.store.specs.declared.starting.NotStarted.{NotStarted}
+use Rattle.store.specs.Stores.{State, owners, Represents}
+use Rattle.store.specs.Answers.{LentCall}
+use Rattle.store.specs.Starts.{Begun, GivenBack}
+use Rattle.store.specs.Runs.{OneCellEach, LeftFor, first_calls, MadeCalls, Completed, Ran}
+use Rattle.store.proofs.Free.{node_rows, entry_rows}
+use Rattle.store.proofs.Lent.{all_made}
 
--- the model's laws at an account that calls lead to
-pub promised : (K : KeyKind) (V : ValueKind) (a : Account) → Reached K V a → Promised K V a
-promised K V a r = record {
-  reached = r;
-  lawful = model.lawful K V a r;
-  equal_images = λ b s. model.equal_images K V a b r s;
-  free_cells = model.free_cells K V a r;
-  one_image = model.one_image K V a r;
-  symmetric = λ b s. model.symmetric K V a b r s;
-}
+module _ {X Y : Type 0} (K : KeyKind) (V : ValueKind) (kb : X → List ℕ) (vb : Y → List ℕ) where
+  module _ (S : State X Y) (a : Account) (rep : Represents K V kb vb S a) where
+    held_in : (x : Marked) (xs ys : List Marked) → xs ≡ ys → in_row x xs ≡ true → Memᴰ x ys
+    held_in x xs ys e h = in_row_member x ys (ap (in_row x) (sym e) ∙ h)
 
-module _ {X Y : Type 0} (K : KeyKind) (V : ValueKind) (kb : X → List ℕ) (vb : Y → List ℕ) (cs ds : List NodeCell) (es fs : List (EntryCell X Y)) (F : tables.Formatted cs ds es fs) (S : State X Y) (e : S ≡ new_state ds fs) where
+    node_of_each : OneCellEach (λ i. (cell S.tables.nodes i).holders) (HoldsNode a)
+    node_of_each = record {
+      label = λ i. (rep.notes.node i).label;
+      held = λ i h. held_live (λ v. v.nodes) a _ (held_in _ _ _ (node_rows K V kb vb S a rep) (nodes_reached K kb vb S.tables.nodes S.tables.entries rep.notes.node rep.notes.entry S.tables.free S.tables.spare (owners S.places) rep.sits.nodes rep.sits.means i h));
+      cell_of = λ x h. reached_nodes K kb vb S.tables.nodes S.tables.entries rep.notes.node rep.notes.entry S.tables.free S.tables.spare (owners S.places) rep.sits.nodes rep.sits.means x
+          (ap (in_row x) (node_rows K V kb vb S a rep) ∙ member_in_row x (live_held (λ v. v.nodes) a x h.0 h.1.0 h.1.1.0 h.1.1.1));
+      once = rep.sits.means.once;
+    }
+
+    entries_with_none : flat_map (λ r. (rep.notes.node r).entries) (owners S.places) ++ map (λ e. (rep.notes.entry e).label) [] ≡ held_entries a.places
+    entries_with_none = append-nil (flat_map (λ i. (rep.notes.node i).entries) (owners S.places)) ∙ entry_rows K V kb vb S a rep
+
+    entry_of_each : OneCellEach (λ e. (entry_cell S.tables.entries e).holders) (HoldsEntry a)
+    entry_of_each = record {
+      label = λ e. (rep.notes.entry e).label;
+      held = λ e h. held_live (λ v. v.entries) a _ (held_in _ _ _ entries_with_none (entries_reached K kb vb S.tables.nodes S.tables.entries rep.notes.node rep.notes.entry S.tables.free S.tables.spare (owners S.places) rep.sits.nodes rep.sits.means S.tables.entry_free S.tables.entry_spare [] rep.sits.entries rep.sits.entryless e h));
+      cell_of = λ x h. reached_entries K kb vb S.tables.nodes S.tables.entries rep.notes.node rep.notes.entry S.tables.free S.tables.spare (owners S.places) rep.sits.nodes rep.sits.means S.tables.entry_free S.tables.entry_spare [] rep.sits.entries rep.sits.entryless x
+          (ap (in_row x) entries_with_none ∙ member_in_row x (live_held (λ v. v.entries) a x h.0 h.1.0 h.1.1.0 h.1.1.1));
+      once = rep.sits.means.entry_once;
+    }
+
+    left_for : (ds : List NodeCell) (fs : List (EntryCell X Y)) → S.tables.nodes ≡ ds → S.tables.entries ≡ fs → LeftFor K V kb vb ds fs a
+    left_for ds fs d f = record {
+      state = S;
+      nodes_are = d;
+      entries_are = f;
+      represents = rep;
+      held_nodes = subst (λ (l : List NodeCell). OneCellEach (λ i. (cell l i).holders) (HoldsNode a)) d node_of_each;
+      held_entries = subst (λ (l : List (EntryCell X Y)). OneCellEach (λ e. (entry_cell l e).holders) (HoldsEntry a)) f entry_of_each;
+    }
+
+  laws : LawsOfRuns K V
+  laws = model.laws K V
+
   -- a run that made its calls
   pub completed :
-      (S' : State X Y) (calls : List (Call X Y)) (old new : List (Answer Y)) (out out' : List ℕ) (n : ℕ) → length cs ≤ 65535 → length es ≤ 65535
-      → MadeCalls K V kb vb S S' calls old new out out' n → Completed K V kb vb (length cs) (length es) calls old new out out' n
-  completed S' calls old new out out' n few_nodes few_entries M =
+      (cs : List NodeCell) (es : List (EntryCell X Y)) (S : State X Y) → Begun K V kb vb cs es S
+      → (S' : State X Y) (ds : List NodeCell) (fs : List (EntryCell X Y)) → ds ≡ S'.tables.nodes → fs ≡ S'.tables.entries
+      → (calls : List (LentCall X Y)) (old new : List (Answer Y)) (out out' : List ℕ) (n : ℕ) → MadeCalls K V kb vb S S' calls old new out out' n
+      → Completed K V kb vb cs ds es fs calls old new out out' n
+  completed cs es S begun S' ds fs dn de calls old new out out' n M =
       let a : Account = fresh (length cs) (length es) in
-      let s = starts_fresh K V kb vb cs ds es fs S F e in
+      let s = begun.account in
+      let rep = M.account a s in
       record {
-        few_nodes = few_nodes;
-        few_entries = few_entries;
+        few_nodes = begun.few_nodes;
+        few_entries = begun.few_entries;
         as_many = M.as_many a s;
+        all_made = λ h k. M.as_many a s ∙ all_made K V kb vb a calls (length old) (length out) h k;
         answered = M.answered a s;
         wrote = M.wrote;
-        promised = promised K V (run K V a (first_calls K V kb vb n calls)) (M.account a s).reached;
+        reached = rep.reached;
+        left = left_for S' (run K V a (first_calls K V kb vb n calls)) rep ds fs (sym dn) (sym de);
+        laws = laws;
       }
+
+  -- a run whose start was refused
+  pub turned_away :
+      (cs : List NodeCell) (es : List (EntryCell X Y)) (u : NotStarted X Y) → GivenBack cs es u → (calls : List (LentCall X Y)) (old : List (Answer Y)) (out : List ℕ)
+      → (r : Result (Finished X Y) (NotStarted X Y)) → IsErrAnd r (λ v. v ≡ u) → Ran K V kb vb cs es calls old old out out r
+  turned_away cs es u given calls old out (Ok f) h = absurd h
+  turned_away cs es u given calls old out (Err v) h = record { given_back = subst (GivenBack cs es) (sym h) given; answers = refl; buffer = refl }

@@ -12,8 +12,8 @@ use Rattle.store.specs.declared.calls.Call.{Call}
 use Rattle.store.specs.declared.calls.Answer.{Answer}
 use Rattle.store.specs.declared.calls.Answer.TheVariants.{Done, Took, Found, Counted, Equal, Saved, Spare, Refused}
 use Rattle.store.specs.Stores.{State, Represents, Answered}
-use Rattle.store.specs.Answers.{call_shown, answer_shown}
-use Rattle.store.specs.Buffers.{Keeps, room_of, written, answers_shown, all_written, saved_bytes, made}
+use Rattle.store.specs.Answers.{LentCall, call_shown, answer_shown}
+use Rattle.store.specs.Buffers.{Keeps, capacity_of, written, answers_shown, all_written, saved_bytes, made}
 use Rattle.store.specs.Runs.{first_calls, MadeCalls}
 
 -- ---- the account
@@ -85,12 +85,12 @@ module _ {Y : Type 0} (vb : Y → List ℕ) where
 
 module _ {X Y : Type 0} (K : KeyKind) (V : ValueKind) (kb : X → List ℕ) (vb : Y → List ℕ) where
   -- the calls so far, with one more
-  first_more : (calls : List (Call X Y)) (n : ℕ) (c : Call X Y) → n < length calls → c ≡ get_or calls n c → first_calls K V kb vb (n + 1) calls ≡ first_calls K V kb vb n calls ++ (call_shown kb vb c ∷ [])
+  first_more : (calls : List (LentCall X Y)) (n : ℕ) (c : LentCall X Y) → n < length calls → c ≡ get_or calls n c → first_calls K V kb vb (n + 1) calls ≡ first_calls K V kb vb n calls ++ (call_shown kb vb c ∷ [])
   first_more calls n c h e =
-      ap (map (call_shown kb vb)) (take_more calls n c h ∙ ap (λ (d : Call X Y). take n calls ++ (d ∷ [])) (sym e)) ∙ map_push (call_shown kb vb) (take n calls) c
+      ap (map (call_shown kb vb)) (take_more calls n c h ∙ ap (λ (d : LentCall X Y). take n calls ++ (d ∷ [])) (sym e)) ∙ map_push (call_shown kb vb) (take n calls) c
 
   -- the first n of the calls are made, and so many bytes are written; of what is left, the account makes as many as it would after them
-  pub record MadeTo (S S' : State X Y) (calls : List (Call X Y)) (old new : List (Answer Y)) (out out' : List ℕ) (n at : ℕ) : Type 0 where
+  pub record MadeTo (S S' : State X Y) (calls : List (LentCall X Y)) (old new : List (Answer Y)) (out out' : List ℕ) (n at : ℕ) : Type 0 where
     pub account : (a : Account) → Represents K V kb vb S a →
         (answers_shown vb out' (take n new) ≡ answers K V a (first_calls K V kb vb n calls)) × Represents K V kb vb S' (run K V a (first_calls K V kb vb n calls))
     pub many : (a : Account) → Represents K V kb vb S a →
@@ -101,7 +101,7 @@ module _ {X Y : Type 0} (K : KeyKind) (V : ValueKind) (kb : X → List ℕ) (vb 
     pub at_is : at ≡ all_written (take n new)
     pub buffer : Keeps at out out'
 
-  pub none_made : (S : State X Y) (calls : List (Call X Y)) (old : List (Answer Y)) (out : List ℕ) → MadeTo S S calls old old out out 0 0
+  pub none_made : (S : State X Y) (calls : List (LentCall X Y)) (old : List (Answer Y)) (out : List ℕ) → MadeTo S S calls old old out out 0 0
   none_made S calls old out = record {
     account = λ a s. (refl, s);
     many = λ a s. let z : made K V kb vb a calls (length old) (length out) ≡ 0 + made K V kb vb a calls (length old - 0) (length out - 0) = ap₂ (λ (k l : ℕ). made K V kb vb a calls k l) (let y : length old ≡ length old - 0 = omega arith in y) (let y : length out ≡ length out - 0 = omega arith in y) ∙ omega arith in z;
@@ -112,7 +112,7 @@ module _ {X Y : Type 0} (K : KeyKind) (V : ValueKind) (kb : X → List ℕ) (vb 
     buffer = record { within = omega arith; long = refl; rest = refl };
   }
 
-  module _ (S S' : State X Y) (calls : List (Call X Y)) (old new : List (Answer Y)) (out out' : List ℕ) (n at : ℕ) (M : MadeTo S S' calls old new out out' n at) where
+  module _ (S S' : State X Y) (calls : List (LentCall X Y)) (old new : List (Answer Y)) (out out' : List ℕ) (n at : ℕ) (M : MadeTo S S' calls old new out out' n at) where
     -- the loop stops there
     pub made_calls : ((a : Account) → Represents K V kb vb S a → made K V kb vb (run K V a (first_calls K V kb vb n calls)) (drop n calls) (length old - n) (length out - at) ≡ 0) → MadeCalls K V kb vb S S' calls old new out out' n
     made_calls stops = record {
@@ -124,24 +124,24 @@ module _ {X Y : Type 0} (K : KeyKind) (V : ValueKind) (kb : X → List ℕ) (vb 
 
     -- no call is left
     pub made_all : n ≡ length calls → MadeCalls K V kb vb S S' calls old new out out' (length calls)
-    made_all e = subst (MadeCalls K V kb vb S S' calls old new out out') e (made_calls (λ a s. ap (λ (l : List (Call X Y)). made K V kb vb (run K V a (first_calls K V kb vb n calls)) l (length old - n) (length out - at)) (ap (λ (i : ℕ). drop i calls) e ∙ drop-length calls)))
+    made_all e = subst (MadeCalls K V kb vb S S' calls old new out out') e (made_calls (λ a s. ap (λ (l : List (LentCall X Y)). made K V kb vb (run K V a (first_calls K V kb vb n calls)) l (length old - n) (length out - at)) (ap (λ (i : ℕ). drop i calls) e ∙ drop-length calls)))
 
-    module _ (c : Call X Y) (inside : n < length calls) (here : c ≡ get_or calls n c) where
+    module _ (c : LentCall X Y) (inside : n < length calls) (here : c ≡ get_or calls n c) where
       left : drop n calls ≡ c ∷ drop (n + 1) calls
-      left = drop-cons calls n c inside ∙ ap₂ (λ (d : Call X Y) (l : List (Call X Y)). d ∷ l) (sym here) (ap (λ (i : ℕ). drop i calls) (let z : suc n ≡ n + 1 = omega arith in z))
+      left = drop-cons calls n c inside ∙ ap₂ (λ (d : LentCall X Y) (l : List (LentCall X Y)). d ∷ l) (sym here) (ap (λ (i : ℕ). drop i calls) (let z : suc n ≡ n + 1 = omega arith in z))
 
       -- no answer has room
       pub made_out : n ≡ length old → MadeCalls K V kb vb S S' calls old new out out' n
       made_out e = made_calls (λ a s.
-          ap₂ (λ (l : List (Call X Y)) (k : ℕ). made K V kb vb (run K V a (first_calls K V kb vb n calls)) l k (length out - at)) left (let z : length old - n ≡ 0 = omega (arith, e) in z))
+          ap₂ (λ (l : List (LentCall X Y)) (k : ℕ). made K V kb vb (run K V a (first_calls K V kb vb n calls)) l k (length out - at)) left (let z : length old - n ≡ 0 = omega (arith, e) in z))
 
       -- the buffer has not so many bytes left
-      pub made_full : n < length old → (length out - at) < room_of c → MadeCalls K V kb vb S S' calls old new out out' n
+      pub made_full : n < length old → (length out - at) < capacity_of c → MadeCalls K V kb vb S S' calls old new out out' n
       made_full f g = made_calls (λ a s.
-          ap₂ (λ (l : List (Call X Y)) (k : ℕ). made K V kb vb (run K V a (first_calls K V kb vb n calls)) l k (length out - at)) left (let z : length old - n ≡ suc (length old - (n + 1)) = omega (arith, f) in z)
-          ∙ cond-false (leb (room_of c) (length out - at)) _ 0 (lt-leb (room_of c) (length out - at) g))
+          ap₂ (λ (l : List (LentCall X Y)) (k : ℕ). made K V kb vb (run K V a (first_calls K V kb vb n calls)) l k (length out - at)) left (let z : length old - n ≡ suc (length old - (n + 1)) = omega (arith, f) in z)
+          ∙ cond-false (leb (capacity_of c) (length out - at)) _ 0 (lt-leb (capacity_of c) (length out - at) g))
 
-      module _ (in_old : n < length old) (fits : room_of c ≤ length out - at) (S'' : State X Y) (r : Answer Y) (part' : List ℕ)
+      module _ (in_old : n < length old) (fits : capacity_of c ≤ length out - at) (S'' : State X Y) (r : Answer Y) (part' : List ℕ)
           (A : Answered K V kb vb S' S'' (call_shown kb vb c) (answer_shown vb part' r)) (kept_part : Keeps (written r) (drop at out') part') where
         abbrev out'' : List ℕ
         out'' = take at out' ++ part'
@@ -182,8 +182,8 @@ module _ {X Y : Type 0} (K : KeyKind) (V : ValueKind) (kb : X → List ℕ) (vb 
                   let on : run K V a (first_calls K V kb vb (n + 1) calls) ≡ after K V b (call_shown kb vb c) = ap (run K V a) (first_more calls n c inside here) ∙ run_more K V a (first_calls K V kb vb n calls) (call_shown kb vb c) in
                   let rest : ℕ → ℕ = λ k. made K V kb vb (after K V b (call_shown kb vb c)) (drop (n + 1) calls) (length old - (n + 1)) k in
                   let e : made K V kb vb b (drop n calls) (length old - n) (length out - at) ≡ suc (rest (length out - (at + written r))) =
-                  ap₂ (λ (l : List (Call X Y)) (k : ℕ). made K V kb vb b l k (length out - at)) left (let z : length old - n ≡ suc (length old - (n + 1)) = omega (arith, in_old) in z)
-                  ∙ cond-true (leb (room_of c) (length out - at)) _ 0 (le-leb (room_of c) (length out - at) fits)
+                  ap₂ (λ (l : List (LentCall X Y)) (k : ℕ). made K V kb vb b l k (length out - at)) left (let z : length old - n ≡ suc (length old - (n + 1)) = omega (arith, in_old) in z)
+                  ∙ cond-true (leb (capacity_of c) (length out - at)) _ 0 (le-leb (capacity_of c) (length out - at) fits)
                   ∙ ap (λ (k : ℕ). suc (rest k)) (let z : (length out - at) - saved_bytes (outcome K V b (call_shown kb vb c)).answer ≡ length out - (at + written r) = omega (arith, bytes) in z) in
                   let f : rest (length out - (at + written r)) ≡ made K V kb vb (run K V a (first_calls K V kb vb (n + 1) calls)) (drop (n + 1) calls) (length old - (n + 1)) (length out - (at + written r)) =
                   ap (λ (x : Account). made K V kb vb x (drop (n + 1) calls) (length old - (n + 1)) (length out - (at + written r))) (sym on) in
@@ -207,7 +207,7 @@ module _ {X Y : Type 0} (K : KeyKind) (V : ValueKind) (kb : X → List ℕ) (vb 
 
       -- the rest of the buffer is lent, and comes back
       pub made_on :
-          n < length old → room_of c ≤ length out - at → (S'' : State X Y) (r : Answer Y) (part' : List ℕ)
+          n < length old → capacity_of c ≤ length out - at → (S'' : State X Y) (r : Answer Y) (part' : List ℕ)
           → Answered K V kb vb S' S'' (call_shown kb vb c) (answer_shown vb part' r) → Keeps (written r) (take (length out' - at) (drop at out')) part'
           → (new' : List (Answer Y)) → new' ≡ set new n r → (w : ℕ) → w ≡ written r
           → MadeTo S S'' calls old new' out (take at out' ++ (part' ++ drop (length out' - at) (drop at out'))) (n + 1) (at + w)

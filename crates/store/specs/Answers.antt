@@ -1,5 +1,6 @@
 -- Calls and answers as the account has them: keys and values by their bytes. Assumes nothing.
 use Rattle.std.specs.Prelude.{ℕ, Bool, List, take, Ok, Err, Option, Result}
+use Rattle.std.specs.Borrow.{Bor}
 use Rattle.kinds.specs.declared.refusal.Refusal.{Refusal}
 use Rattle.kinds.specs.Refusals.{shown}
 use Rattle.model.specs.Calls as model
@@ -9,7 +10,11 @@ use Rattle.store.specs.declared.calls.Call.TheVariants.{Open, OpenFrom, Put, Rem
 use Rattle.store.specs.declared.calls.Answer.{Answer}
 use Rattle.store.specs.declared.calls.Answer.TheVariants.{Done, Took, Found, Counted, Equal, Saved, Spare, Refused}
 
-abbrev pub call_shown : {X Y : Type 0} → (X → List ℕ) → (Y → List ℕ) → Call X Y → model.Call
+-- a call that is lent its image, if it has one
+abbrev pub LentCall : Type 0 → Type 0 → Type 0
+LentCall X Y = Call (Bor (List ℕ)) X Y
+
+abbrev pub call_shown : {X Y : Type 0} → (X → List ℕ) → (Y → List ℕ) → LentCall X Y → model.Call
 call_shown kb vb (Open p) = model.Open p
 call_shown kb vb (OpenFrom p q) = model.OpenFrom p q
 call_shown kb vb (Put p k v) = model.Put p (kb k) (vb v)

@@ -8,7 +8,7 @@ use Rattle.store.specs.declared.calls.Call.{Call}
 use Rattle.store.specs.declared.calls.Call.TheVariants.{Open, OpenFrom, Put, Remove, Union, Merge, Publish, Abandon, Retire, Load, LookUp, Count, Compare, Save, Free}
 use Rattle.store.specs.declared.calls.Answer.{Answer}
 use Rattle.store.specs.declared.calls.Answer.TheVariants.{Done, Took, Found, Counted, Equal, Saved, Spare, Refused}
-use Rattle.store.specs.Answers.{call_shown, answer_shown}
+use Rattle.store.specs.Answers.{LentCall, call_shown, answer_shown}
 
 -- so many bytes were written at most, from the first on: the buffer is as long as it was, and what lies past them is as it was
 pub record Keeps (n : ℕ) (old new : List ℕ) : Type 0 where
@@ -22,22 +22,22 @@ KeepsRest old new (Ok n) = Keeps n old new
 KeepsRest old new (Err x) = new ≡ old
 
 -- how many bytes of the buffer a call is lent
-abbrev pub room_of : {X Y : Type 0} → Call X Y → ℕ
-room_of (Open p) = 0
-room_of (OpenFrom p q) = 0
-room_of (Put p k v) = 0
-room_of (Remove p k) = 0
-room_of (Union p q) = 0
-room_of (Merge p b t) = 0
-room_of (Publish p) = 0
-room_of (Abandon p) = 0
-room_of (Retire p) = 0
-room_of (Load p bs) = 0
-room_of (LookUp p k) = 0
-room_of (Count p) = 0
-room_of (Compare p q) = 0
-room_of (Save p n) = n
-room_of Free = 0
+abbrev pub capacity_of : {I X Y : Type 0} → Call I X Y → ℕ
+capacity_of (Open p) = 0
+capacity_of (OpenFrom p q) = 0
+capacity_of (Put p k v) = 0
+capacity_of (Remove p k) = 0
+capacity_of (Union p q) = 0
+capacity_of (Merge p b t) = 0
+capacity_of (Publish p) = 0
+capacity_of (Abandon p) = 0
+capacity_of (Retire p) = 0
+capacity_of (Load p bs) = 0
+capacity_of (LookUp p k) = 0
+capacity_of (Count p) = 0
+capacity_of (Compare p q) = 0
+capacity_of (Save p n) = n
+capacity_of Free = 0
 
 -- how many bytes an answer tells of
 abbrev pub written : {Y : Type 0} → Answer Y → ℕ
@@ -77,10 +77,15 @@ saved_bytes (model.saved bs) = length bs
 saved_bytes (model.spare n e) = 0
 saved_bytes (model.refused x) = 0
 
--- how many calls of a list an account makes where there is room for so many answers, and so many bytes of the buffer are left: each in turn, up to one that there is no room for
-abbrev pub made : {X Y : Type 0} → KeyKind → ValueKind → (X → List ℕ) → (Y → List ℕ) → Account → List (Call X Y) → ℕ → ℕ → ℕ
+-- how many bytes the calls of a list are lent
+abbrev pub all_capacity : {I X Y : Type 0} → List (Call I X Y) → ℕ
+all_capacity [] = 0
+all_capacity (c ∷ cs) = capacity_of c + all_capacity cs
+
+-- how many calls of a list an account makes, where there is space for so many answers, and so many bytes of the buffer are left: each in turn, up to one that wants an answer or bytes more
+abbrev pub made : {X Y : Type 0} → KeyKind → ValueKind → (X → List ℕ) → (Y → List ℕ) → Account → List (LentCall X Y) → ℕ → ℕ → ℕ
 made K V kb vb a [] k left = 0
 made K V kb vb a (c ∷ cs) zero left = 0
 made K V kb vb a (c ∷ cs) (suc k) left =
     let m : model.Call = call_shown kb vb c in
-    cond (nat_le (room_of c) left) (suc (made K V kb vb (model.after K V a m) cs k (left - saved_bytes (model.outcome K V a m).answer))) 0
+    cond (nat_le (capacity_of c) left) (suc (made K V kb vb (model.after K V a m) cs k (left - saved_bytes (model.outcome K V a m).answer))) 0

@@ -1,12 +1,12 @@
 // The calls of a store by the numbers of its places, and what they answer.
 ghost use Rattle.std.specs.Prelude.{◌≡◌};
-ghost use Rattle.store.specs.Buffers.{room_of, written};
+ghost use Rattle.store.specs.Buffers.{capacity_of, written};
 
 use kinds::Refusal;
 
-// A call with its arguments.
+/// A call with its arguments; `I` is how an image is lent, as `&[u8]`.
 #[derive(Clone, Copy)]
-pub enum Call<'a, K, V> {
+pub enum Call<I, K, V> {
     Open(u32),
     OpenFrom(u32, u32),
     Put(u32, K, V),
@@ -19,7 +19,7 @@ pub enum Call<'a, K, V> {
     Abandon(u32),
     Retire(u32),
     // of an image
-    Load(u32, &'a [u8]),
+    Load(u32, I),
     LookUp(u32, K),
     Count(u32),
     Compare(u32, u32),
@@ -44,13 +44,13 @@ pub enum Answer<V> {
     Refused(Refusal),
 }
 
-impl<'a, K, V> Call<'a, K, V> {
-    // How many bytes of a buffer it is lent.
-    pub fn room(&self) -> usize
-        ensures { result ≡ room_of self.now }
+impl<I, K, V> Call<I, K, V> {
+    /// How many bytes of a buffer it is lent.
+    pub fn capacity(&self) -> usize
+        ensures { result ≡ capacity_of self.now }
     {
         match self {
-            Call::Save(_, room) => *room,
+            Call::Save(_, capacity) => *capacity,
             _ => 0,
         }
     }

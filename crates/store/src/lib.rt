@@ -19,7 +19,7 @@ mod store;
 
 pub use calls::{Answer, Call};
 pub use draft::Draft;
-pub use running::run;
+pub use running::{Finished, run};
 pub use spot::Spot;
 pub use starting::{NotStarted, start};
 pub use store::Store;

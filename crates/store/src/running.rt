@@ -2,15 +2,16 @@
 ghost use Rattle.store.specs.Runs.{MadeCalls, Ran};
 
 use super::calls::{Answer, Call};
+use super::starting::{NotStarted, start};
 use super::store::Store;
-use kinds::{Key, Refusal, Value};
-use tables::{EntryCell, NodeCell, start};
+use kinds::{Key, Value};
+use tables::{EntryCell, NodeCell};
 
 impl<'a, K: Key, V: Value> Store<'a, K, V> {
     // Makes the calls in order, writes their answers into the list, and saved images one after another into the buffer; says how many calls it made.
     fn make_calls(
         &mut self,
-        calls: &[Call<K, V>],
+        calls: &[Call<&[u8], K, V>],
         answers: &mut [Answer<V>],
         out: &mut [u8],
     ) -> usize
@@ -18,7 +19,7 @@ impl<'a, K: Key, V: Value> Store<'a, K, V> {
     {
         let mut at = 0;
         for (i, call) in calls.iter().enumerate() {
-            if i == answers.len() || call.room() > out.len() - at {
+            if i == answers.len() || call.capacity() > out.len() - at {
                 return i;
             }
             let answer = self.step(call, &mut out[at..]);
@@ -29,18 +30,38 @@ impl<'a, K: Key, V: Value> Store<'a, K, V> {
     }
 }
 
-// Starts a new store over the lent tables, makes the calls in order, and says how many it made. Their answers are written into the lent list, and saved images one after another into the lent buffer: a save is lent as many bytes of it as it asks for, and the next image begins where this one ends. It stops before a call that the list has no room for, and before a save that the buffer has not so many bytes left for.
-// A table of more than 65,535 cells is refused with 2, and then the tables, the answers and the buffer are as they were.
-pub fn run<K: Key, V: Value>(
-    nodes: &mut [NodeCell],
-    entries: &mut [EntryCell<K, V>],
-    calls: &[Call<K, V>],
+/// A run that was made: how many of its calls, and the lent tables as it leaves them.
+#[derive(Drop)]
+pub struct Finished<'a, K, V> {
+    pub made: usize,
+    pub nodes: &'a mut [NodeCell],
+    pub entries: &'a mut [EntryCell<K, V>],
+}
+
+/// Starts a new store over the lent tables, makes the calls in order, and says how many it made; the tables come back
+/// as the calls leave them.
+///
+/// Answers are written into the lent list, and saved images one after another into the lent buffer: a save is lent as
+/// many bytes of it as it asks for, and the next image begins where this one ends. The run stops before a call that the
+/// list has no place for, and before a save that the buffer has not so many bytes left for.
+///
+/// A table of more than 65,535 cells is refused with 2, and then the tables come back as they were, and the answers and
+/// the buffer are as they were.
+pub fn run<'a, K: Key, V: Value>(
+    nodes: &'a mut [NodeCell],
+    entries: &'a mut [EntryCell<K, V>],
+    calls: &[Call<&[u8], K, V>],
     answers: &mut [Answer<V>],
     out: &mut [u8],
-) -> Result<usize, Refusal>
-    ensures { Ran K.kind V.kind K.bytes V.bytes nodes.old nodes.new entries.old entries.new calls.now answers.old answers.new out.old out.new result }
+) -> Result<Finished<'a, K, V>, NotStarted<'a, K, V>>
+    ensures { Ran K.kind V.kind K.bytes V.bytes nodes.old entries.old calls.now answers.old answers.new out.old out.new result }
 {
-    start(nodes, entries)?;
-    let mut store = Store::over(nodes, entries);
-    Ok(store.make_calls(calls, answers, out))
+    let mut store = start(nodes, entries)?;
+    let made = store.make_calls(calls, answers, out);
+    let (nodes, entries) = store.into_cells();
+    Ok(Finished {
+        made,
+        nodes,
+        entries,
+    })
 }

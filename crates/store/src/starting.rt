@@ -49,6 +49,19 @@ impl<'a, K: Key, V: Value> Store<'a, K, V> {
     }
 }
 
+impl<'a, K: Key, V: Value> Store<'a, K, V> {
+    // The cells of its two tables, as its calls left them.
+    pub(crate) fn into_cells(self) -> (&'a mut [NodeCell], &'a mut [EntryCell<K, V>])
+        ensures nodes { result.0.now ≡ self.entry.tables.nodes }
+        ensures entries { result.1.now ≡ self.entry.tables.entries }
+    {
+        let Store { tables, places: _ } = self;
+        let Tables { nodes, entries } = tables;
+        let (node_cells, entry_cells) = (nodes.cells, entries.cells);
+        (node_cells, entry_cells)
+    }
+}
+
 // Starts a store over two lent tables: every place is empty, every cell free. A table of more than 65,535 cells is refused with 2, and the tables come back as they were.
 pub fn start<'a, K: Key, V: Value>(
     nodes: &'a mut [NodeCell],

@@ -1,7 +1,7 @@
 // One call by the number of its place.
 ghost use Rattle.std.specs.Prelude.{◌≤◌, length};
 ghost use Rattle.store.specs.Answers.{answer_shown, call_shown, result_shown};
-ghost use Rattle.store.specs.Buffers.{room_of, written, result_written, Keeps};
+ghost use Rattle.store.specs.Buffers.{capacity_of, written, result_written, Keeps};
 ghost use Rattle.store.specs.Stores.{Answered};
 
 use super::calls::{Answer, Call};
@@ -10,8 +10,8 @@ use kinds::{Key, Refusal, Value};
 
 impl<'a, K: Key, V: Value> Store<'a, K, V> {
     // Makes one call by the number of its place; an image is saved into the buffer from its first byte on.
-    pub(crate) fn step(&mut self, call: &Call<K, V>, out: &mut [u8]) -> Answer<V>
-        requires { room_of call.now ≤ length out.old }
+    pub(crate) fn step(&mut self, call: &Call<&[u8], K, V>, out: &mut [u8]) -> Answer<V>
+        requires { capacity_of call.now ≤ length out.old }
         ensures answered { Answered K.kind V.kind K.bytes V.bytes self.old self.new (call_shown K.bytes V.bytes call.now) (answer_shown V.bytes out.new result) }
         ensures buffer { Keeps (written result) out.old out.new }
     {
@@ -22,8 +22,8 @@ impl<'a, K: Key, V: Value> Store<'a, K, V> {
     }
 
     // Makes one call: what it answers, or why it is refused.
-    fn attempt(&mut self, call: &Call<K, V>, out: &mut [u8]) -> Result<Answer<V>, Refusal>
-        requires { room_of call.now ≤ length out.old }
+    fn attempt(&mut self, call: &Call<&[u8], K, V>, out: &mut [u8]) -> Result<Answer<V>, Refusal>
+        requires { capacity_of call.now ≤ length out.old }
         ensures answered { Answered K.kind V.kind K.bytes V.bytes self.old self.new (call_shown K.bytes V.bytes call.now) (result_shown (answer_shown V.bytes out.new) result) }
         ensures buffer { Keeps (result_written result) out.old out.new }
     {
@@ -71,7 +71,10 @@ impl<'a, K: Key, V: Value> Store<'a, K, V> {
             Call::LookUp(place, key) => Ok(Answer::Found(self.look_up(*place, key)?)),
             Call::Count(place) => Ok(Answer::Counted(self.count(*place)?)),
             Call::Compare(place, other) => Ok(Answer::Equal(self.compare(*place, *other)?)),
-            Call::Save(place, room) => Ok(Answer::Saved(self.save(*place, &mut out[..*room])?)),
+            Call::Save(place, capacity) => {
+                let length = self.save(*place, &mut out[..*capacity])?;
+                Ok(Answer::Saved(length))
+            },
             Call::Free => {
                 let (nodes, entries) = self.free();
                 Ok(Answer::Spare(nodes, entries))

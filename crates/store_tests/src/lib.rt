@@ -8,4 +8,6 @@ mod edited;
 #[cfg(test)]
 mod merged;
 #[cfg(test)]
+mod runs;
+#[cfg(test)]
 mod united;

@@ -23,6 +23,43 @@ pub(crate) fn format<C: Cell>(cells: &mut [C], empty: C)
     }
 }
 
+// One more holder of a cell of a slice.
+fn hold_cell<C: Cell>(cells: &mut [C], at: usize)
+    requires inside { at < length cells.old }
+    requires few { C.holders (slice_index_or cells.old at C.blank) + 1 < 2 ^ 32 }
+    ensures { let c = slice_index_or cells.old at C.blank in cells.new ≡ slice_set cells.old at (C.with c (C.holders c + 1) (C.next c)) }
+{
+    let old = cells[at];
+    cells[at] = old.with(old.holders() + 1, old.next());
+}
+
+// Puts what is new into a cell of a slice; answers the cell that followed it in the chain of free cells.
+fn take_cell<C: Cell>(cells: &mut [C], at: usize, new: C) -> u16
+    requires { at < length cells.old }
+    ensures next { result ≡ C.next (slice_index_or cells.old at C.blank) }
+    ensures cells { cells.new ≡ slice_set cells.old at new }
+{
+    let next = cells[at].next();
+    cells[at] = new;
+    next
+}
+
+// One holder fewer of a cell of a slice; without any left the cell is emptied and put before the first free one. Says whether it was.
+fn let_go_cell<C: Cell>(cells: &mut [C], at: usize, free: u16) -> bool
+    requires { at < length cells.old }
+    ensures shared { let c = slice_index_or cells.old at C.blank in result ≡ false → (1 < C.holders c) × (cells.new ≡ slice_set cells.old at (C.with c (C.holders c - 1) (C.next c))) }
+    ensures freed { let c = slice_index_or cells.old at C.blank in result ≡ true → (C.holders c ≤ 1) × (cells.new ≡ slice_set cells.old at (C.with (C.emptied c) 0 free)) }
+{
+    let old = cells[at];
+    let holders = old.holders();
+    if holders > 1 {
+        cells[at] = old.with(holders - 1, old.next());
+        return false;
+    }
+    cells[at] = old.emptied().with(0, free);
+    true
+}
+
 impl<'a, C: Cell> Table<'a, C> {
     // One more holder of a cell.
     pub(crate) fn hold(&mut self, at: usize)
@@ -32,8 +69,7 @@ impl<'a, C: Cell> Table<'a, C> {
         ensures free { self.new.free ≡ self.old.free }
         ensures spare { self.new.spare ≡ self.old.spare }
     {
-        let old = self.cells[at];
-        self.cells[at] = old.with(old.holders() + 1, old.next());
+        hold_cell(self.cells, at);
     }
 
     // Takes the first free cell out of the chain for what it is to hold; answers its number.
@@ -46,10 +82,8 @@ impl<'a, C: Cell> Table<'a, C> {
         ensures spare { self.new.spare ≡ self.old.spare - 1 }
     {
         let number = self.free;
-        let at = number as usize;
-        self.free = self.cells[at].next();
+        self.free = take_cell(self.cells, number as usize, new);
         self.spare -= 1;
-        self.cells[at] = new;
         number
     }
 
@@ -60,16 +94,11 @@ impl<'a, C: Cell> Table<'a, C> {
         ensures shared { let c = slice_index_or self.old.cells.now number C.blank in result ≡ false → (1 < C.holders c) × ((self.new.cells.now ≡ slice_set self.old.cells.now number (C.with c (C.holders c - 1) (C.next c))) × ((self.new.free ≡ self.old.free) × (self.new.spare ≡ self.old.spare))) }
         ensures freed { let c = slice_index_or self.old.cells.now number C.blank in result ≡ true → (C.holders c ≤ 1) × ((self.new.cells.now ≡ slice_set self.old.cells.now number (C.with (C.emptied c) 0 self.old.free)) × ((self.new.free ≡ number) × (self.new.spare ≡ self.old.spare + 1))) }
     {
-        let at = number as usize;
-        let old = self.cells[at];
-        let holders = old.holders();
-        if holders > 1 {
-            self.cells[at] = old.with(holders - 1, old.next());
-            return false;
+        let freed = let_go_cell(self.cells, number as usize, self.free);
+        if freed {
+            self.free = number;
+            self.spare += 1;
         }
-        self.cells[at] = old.emptied().with(0, self.free);
-        self.free = number;
-        self.spare += 1;
-        true
+        freed
     }
 }

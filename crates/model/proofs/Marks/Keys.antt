@@ -1,7 +1,7 @@
 -- The keys of a map: what look-ups find, what falls to a digit, and that a rising map has each once. Assumes nothing.
 use Rattle.std.proofs.Common.{◌≡◌, ℕ, Bool, true, false, cond, eqb, List, [], ◌∷◌, is_some, Some, Option, sym, refl, subst, inl, inr}
 use mathlib.Core.List.Memᴰ
-use Rattle.std.proofs.lemmas.Bool.{cond_both, both_ways, false≢true, and_parts, eqb-true, eq-eqb}
+use Rattle.std.proofs.lemmas.Bool.{and_from, cond_both, both_ways, false≢true, and_parts, eqb-true, eq-eqb}
 use Rattle.byte_rows.specs.Rows.{same}
 use Rattle.byte_rows.proofs.Orders.{same_decides}
 use Rattle.kinds.specs.Kinds.{KeyKind}
@@ -42,6 +42,10 @@ same_map_true (s ∷ a) (t ∷ b) e =
     let y : s.value ≡ t.value = (same_decides s.value t.value).0 j.0 in
     let z : a ≡ b = same_map_true a b j.1 in
     λ i. record { key = x i; value = y i } ∷ z i
+
+pub same_map_self : (m : Map) → same_map m m ≡ true
+same_map_self [] = refl
+same_map_self (s ∷ m) = and_from (same s.key s.key) _ ((same_decides s.key s.key).1 refl) (and_from (same s.value s.value) _ ((same_decides s.value s.value).1 refl) (same_map_self m))
 
 -- ---- digits
 

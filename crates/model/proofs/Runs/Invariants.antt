@@ -115,9 +115,9 @@ module _ (K : KeyKind) (V : ValueKind) where
           keeps a r c made h =
               let on = all_hold_weaker (λ v. Good v × P a.calls v) (λ v. Good v × P (a.calls + 1) v) (λ v q. (q.0, later a.calls v q.0 q.1)) a.places h in
               step K V a exact (λ v. Good v × P a.calls v) (λ v q. q.0) h (λ o. AllByRecursion (Holds (λ v. Good v × P (a.calls + 1) v)) o.places) (λ s. on)
-              (λ s i p q. All-set (Holds (λ v. Good v × P (a.calls + 1) v)) a.places i p
-              (holds_both Good (P (a.calls + 1)) p (new_good (λ v. Good v × P a.calls v) (λ v x. x.0) a q) (new a r h i p q)) on)
               c made
+              (λ s i p w q. All-set (Holds (λ v. Good v × P (a.calls + 1) v)) a.places i p
+              (holds_both Good (P (a.calls + 1)) p (new_good (λ v. Good v × P a.calls v) (λ v x. x.0) a q) (new a r h i p q)) on)
 
       pub live_keeps : (a : Account) → Reached K V a → (i : ℕ) (v : Version) → live a i ≡ Some v → P a.calls v
       live_keeps a r i v e = (live_holds (λ v. Good v × P a.calls v) a i v (reached_holds a r) e).1
@@ -126,8 +126,8 @@ module _ (K : KeyKind) (V : ValueKind) where
     pub reached_good : (a : Account) → Reached K V a → AllByRecursion (Holds Good) a.places
     reached_good =
         reached_keeps (λ a. AllByRecursion (Holds Good) a.places)
-        (λ a c made h. step K V a exact Good (λ v q. q) h (λ o. AllByRecursion (Holds Good) o.places) (λ s. h)
-        (λ s i p q. All-set (Holds Good) a.places i p (new_good Good (λ v x. x) a q) h) c made)
+        (λ a c made h. step K V a exact Good (λ v q. q) h (λ o. AllByRecursion (Holds Good) o.places) (λ s. h) c made
+        (λ s i p w q. All-set (Holds Good) a.places i p (new_good Good (λ v x. x) a q) h))
         (λ n e x y. all_empty Good 64)
 
     pub live_good : (a : Account) → Reached K V a → (i : ℕ) (v : Version) → live a i ≡ Some v → Good v

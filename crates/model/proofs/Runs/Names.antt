@@ -180,13 +180,13 @@ module _ (K : KeyKind) (V : ValueKind) where
     table_after a c made t =
         step K V a exact (Told K V t.of a.calls) (λ v q. (q.sound, q.uncrowded)) t.told (Leaves a)
         (λ r. record { of = t.of; good = t.good; told = still_told a t.of t.good t.of (λ i h. refl) t.told })
-        (λ r i p n. let g = grown a t.of t.good n in
+        c made
+        (λ r i p w n. let g = grown a t.of t.good n in
         record {
           of = g.of;
           good = g.good;
           told = All-set (Holds (Told K V g.of (a.calls + 1))) a.places i p g.tells (still_told a t.of t.good g.of g.agrees t.told);
         })
-        c made
 
     pub reached_table : (a : Account) → Reached K V a → Table K V a
     reached_table = reached_keeps K V (Table K V) table_after (λ n e x y. record { of = λ i. []; good = λ i. sound_empty K V; told = all_empty (Told K V (λ i. []) 0) 64 })

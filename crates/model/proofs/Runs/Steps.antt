@@ -1,7 +1,7 @@
 -- What a call can leave: the places as they were, or one of them new. Assumes nothing.
-use Rattle.std.proofs.Common.{◌≡◌, ℕ, zero, suc, ◌≤◌, Bool, true, false, cond, ◌&&◌, ltb, leb, ◌⊎◌, List, [], ◌∷◌, map, length, Some, None, refl, inl, inr}
+use Rattle.std.proofs.Common.{◌≡◌, ℕ, zero, suc, ◌<◌, ◌≤◌, Bool, true, false, cond, ◌&&◌, ltb, leb, ◌⊎◌, List, [], ◌∷◌, map, length, Some, None, refl, inl, inr}
 use Rattle.std.specs.List.{AllByRecursion}
-use Rattle.std.proofs.lemmas.Bool.{and_parts, leb-true}
+use Rattle.std.proofs.lemmas.Bool.{and_parts, leb-true, leb-false}
 use Rattle.kinds.specs.Kinds.{KeyKind, ValueKind}
 use Rattle.kinds.specs.Refusals as refusals
 use Rattle.model.specs.declared.limits.TheConstants.{PLACES}
@@ -13,6 +13,7 @@ use Rattle.model.specs.Sharing.{Shared, shared, no_share}
 use Rattle.model.specs.Accounts.{Version, Place, empty, draft, published, Account, nth, whole, free_nodes, free_entries}
 use Rattle.model.specs.Calls.{Call, Answer, done, took, saved, refused, Outcome, at, now, refuse, reply, leave, on_place, on_live, on_published, on_empty, on_draft, on_uncrowded, result, version, both_names, named, outcome}
 use Rattle.model.specs.Runs.{Made}
+use Rattle.model.specs.Names.{place_of}
 use Rattle.model.specs.Reading as reading
 use Rattle.model.specs.Calls as Calls
 use Rattle.model.proofs.Maps.Edits.{sound_put, sound_remove, sound_union, sound_merge}
@@ -32,12 +33,16 @@ holds_nth P (p ∷ ps) (suc i) h = holds_nth P ps i h.1
 module _ (K : KeyKind) (V : ValueKind) (a : Account) where
   -- Q holds of an outcome, past each way in which the call is refused
   module _ (Q : Outcome → Type 0) (refusal : (n : ℕ) → Q (refuse K V a n)) where
-    pub past_place : (i : ℕ) (o : Outcome) → Q o → Q (on_place K V a i o)
-    past_place i o q = go (leb PLACES i)
+    -- the number of a place is below 64
+    pub past_number : (i : ℕ) (o : Outcome) → (i < PLACES → Q o) → Q (on_place K V a i o)
+    past_number i o q = go (leb PLACES i) refl
       where
-        go : (b : Bool) → Q (cond b (refuse K V a 3) o)
-        go true = refusal 3
-        go false = q
+        go : (b : Bool) → leb PLACES i ≡ b → Q (cond b (refuse K V a 3) o)
+        go true e = refusal 3
+        go false e = q (leb-false PLACES i e)
+
+    pub past_place : (i : ℕ) (o : Outcome) → Q o → Q (on_place K V a i o)
+    past_place i o q = past_number i o (λ small. q)
 
     pub past_live : (i : ℕ) (f : Version → Outcome) → ((v : Version) → Q (f v)) → Q (on_live K V a i f)
     past_live i f q = go (at K V a i)
@@ -117,8 +122,7 @@ module _ (K : KeyKind) (V : ValueKind) (a : Account) where
     loaded : {i : ℕ} (m : Map) (s : Shared) → LetIn P [] m s → New P i (published (version K V a m (Some (now K V a ∷ [])) s))
 
   module _ (exact : OnlyImagesAreAccepted K V) (P : Version → Type 0) (lawful : (v : Version) → P v → Sound K V v.settings × Uncrowded K v.settings)
-      (held : AllByRecursion (Holds P) a.places) (Q : Outcome → Type 0) (kept : (r : Answer) → Q (reply K V a r))
-      (new : (r : Answer) (i : ℕ) (p : Place) → New P i p → Q (leave K V a r i p)) where
+      (held : AllByRecursion (Holds P) a.places) (Q : Outcome → Type 0) (kept : (r : Answer) → Q (reply K V a r)) where
     refusal : (n : ℕ) → Q (refuse K V a n)
     refusal n = kept (refused (refusals.refused n))
 
@@ -148,39 +152,39 @@ module _ (K : KeyKind) (V : ValueKind) (a : Account) where
           uncrowded = u;
         }
 
-    -- a call leaves the places as they were, or one of them new
-    pub step : (c : Call) → Made K V c → Q (outcome K V a c)
-    step (Calls.Open i) h = past_place Q refusal i _ (past_empty Q refusal i _ (new done i _ opened))
-    step (Calls.OpenFrom i j) h =
-        past_place Q refusal i _ (past_place Q refusal j _ (past_published Q refusal j _ λ v e. past_empty Q refusal i _ (new done i _ (copied j v (at_published j v e) e))))
-    step (Calls.Put i k v) h =
+    -- a call leaves the places as they were, or the one that it may change new
+    pub step : (c : Call) → Made K V c → ((r : Answer) (i : ℕ) (p : Place) → place_of c ≡ Some i → New P i p → Q (leave K V a r i p)) → Q (outcome K V a c)
+    step (Calls.Open i) h new = past_place Q refusal i _ (past_empty Q refusal i _ (new done i _ refl opened))
+    step (Calls.OpenFrom i j) h new =
+        past_place Q refusal i _ (past_place Q refusal j _ (past_published Q refusal j _ λ v e. past_empty Q refusal i _ (new done i _ refl (copied j v (at_published j v e) e))))
+    step (Calls.Put i k v) h new =
         past_place Q refusal i _ (past_draft Q refusal i _ λ d e.
         let m : Map = put K d.settings k v in
         past_uncrowded Q refusal m _ λ u. past_result Q refusal i (d ∷ []) m _ λ s x y z.
-        new _ i _ (edited (d ∷ []) m s (from_one i d e m s (sound_put K V d.settings k (lawful d (at_draft i d e)).0 h.0 v h.1) u x y z)))
-    step (Calls.Remove i k) h =
+        new _ i _ refl (edited (d ∷ []) m s (from_one i d e m s (sound_put K V d.settings k (lawful d (at_draft i d e)).0 h.0 v h.1) u x y z)))
+    step (Calls.Remove i k) h new =
         past_place Q refusal i _ (past_draft Q refusal i _ λ d e.
         let m : Map = remove K d.settings k in
         let g = lawful d (at_draft i d e) in
         past_result Q refusal i (d ∷ []) m _ λ s x y z.
-        new _ i _ (edited (d ∷ []) m s (from_one i d e m s (sound_remove K V d.settings k g.0 h) (uncrowded_remove K V d.settings k g.0 h g.1) x y z)))
-    step (Calls.Union i j) h =
+        new _ i _ refl (edited (d ∷ []) m s (from_one i d e m s (sound_remove K V d.settings k g.0 h) (uncrowded_remove K V d.settings k g.0 h g.1) x y z)))
+    step (Calls.Union i j) h new =
         past_place Q refusal i _ (past_place Q refusal j _ (past_published Q refusal j _ λ o f. past_draft Q refusal i _ λ d e.
         let m : Map = union K V d.settings o.settings in
         past_uncrowded Q refusal m _ λ u. past_result Q refusal i (d ∷ (o ∷ [])) m _ λ s x y z.
-        new _ i _ (united d o s
+        new _ i _ refl (united d o s
         (from_two i j d o e f m s (sound_union K V d.settings o.settings (lawful d (at_draft i d e)).0 (lawful o (at_published j o f)).0) u x y z))))
-    step (Calls.Merge i b t) h =
+    step (Calls.Merge i b t) h new =
         past_place Q refusal i _ (past_place Q refusal b _ (past_place Q refusal t _ (past_published Q refusal b _ λ base g. past_published Q refusal t _ λ theirs f. past_draft Q refusal i _ λ d e.
         let m : Map = merge K V d.settings base.settings theirs.settings in
         past_uncrowded Q refusal m _ λ u. past_result Q refusal i (d ∷ (theirs ∷ [])) m _ λ s x y z.
-        new _ i _ (edited (d ∷ (theirs ∷ [])) m s
+        new _ i _ refl (edited (d ∷ (theirs ∷ [])) m s
         (from_two i t d theirs e f m s
         (sound_merge K V d.settings base.settings theirs.settings (lawful d (at_draft i d e)).0 (lawful theirs (at_published t theirs f)).0) u x y z)))))
-    step (Calls.Publish i) h = past_place Q refusal i _ (past_draft Q refusal i _ λ v e. new done i _ (issued i v (at_draft i v e) e))
-    step (Calls.Abandon i) h = past_place Q refusal i _ (past_draft Q refusal i _ λ v e. new done i _ cleared)
-    step (Calls.Retire i) h = past_place Q refusal i _ (past_published Q refusal i _ λ v e. new done i _ cleared)
-    step (Calls.Load i bs) h = past_place Q refusal i _ (past_empty Q refusal i _ (go (judge K V bs) (λ m e. let l = (exact bs m h e).1 in (record { rises = l.rises; reads = l.reads }, l.uncrowded))))
+    step (Calls.Publish i) h new = past_place Q refusal i _ (past_draft Q refusal i _ λ v e. new done i _ refl (issued i v (at_draft i v e) e))
+    step (Calls.Abandon i) h new = past_place Q refusal i _ (past_draft Q refusal i _ λ v e. new done i _ refl cleared)
+    step (Calls.Retire i) h new = past_place Q refusal i _ (past_published Q refusal i _ λ v e. new done i _ refl cleared)
+    step (Calls.Load i bs) h new = past_place Q refusal i _ (past_empty Q refusal i _ (go (judge K V bs) (λ m e. let l = (exact bs m h e).1 in (record { rises = l.rises; reads = l.reads }, l.uncrowded))))
       where
         go : (j : Verdict) → ((m : Map) → j ≡ accepted m → Sound K V m × Uncrowded K m) →
             Q (elim j [
@@ -189,14 +193,14 @@ module _ (K : KeyKind) (V : ValueKind) (a : Account) where
             ])
         go (accepted m) g =
             past_result Q refusal i [] m _ λ s x y z.
-            new _ i _ (loaded m s (record { from = tt; live = tt; shares = x; nodes_fit = y; entries_fit = z; sound = (g m refl).0; uncrowded = (g m refl).1 }))
+            new _ i _ refl (loaded m s (record { from = tt; live = tt; shares = x; nodes_fit = y; entries_fit = z; sound = (g m refl).0; uncrowded = (g m refl).1 }))
         go (reading.refused n o) g = kept (refused (refusals.refused_at n o))
-    step (Calls.LookUp i k) h = past_place Q refusal i _ (past_live Q refusal i _ λ v. kept _)
-    step (Calls.Count i) h = past_place Q refusal i _ (past_live Q refusal i _ λ v. kept _)
-    step (Calls.Compare i j) h = past_place Q refusal i _ (past_place Q refusal j _ (past_live Q refusal i _ λ v. past_live Q refusal j _ λ w. kept _))
-    step (Calls.Save i room) h = past_place Q refusal i _ (past_live Q refusal i _ λ v. go (ltb room (length (image K V v.settings))) (image K V v.settings))
+    step (Calls.LookUp i k) h new = past_place Q refusal i _ (past_live Q refusal i _ λ v. kept _)
+    step (Calls.Count i) h new = past_place Q refusal i _ (past_live Q refusal i _ λ v. kept _)
+    step (Calls.Compare i j) h new = past_place Q refusal i _ (past_place Q refusal j _ (past_live Q refusal i _ λ v. past_live Q refusal j _ λ w. kept _))
+    step (Calls.Save i room) h new = past_place Q refusal i _ (past_live Q refusal i _ λ v. go (ltb room (length (image K V v.settings))) (image K V v.settings))
       where
         go : (b : Bool) (x : List ℕ) → Q (cond b (refuse K V a 12) (reply K V a (saved x)))
         go true x = refusal 12
         go false x = kept (saved x)
-    step Calls.Free h = kept _
+    step Calls.Free h new = kept _

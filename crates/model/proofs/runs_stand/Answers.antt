@@ -1,19 +1,5 @@
-use Rattle.model.proofs.Promises as promises
+use Rattle.model.proofs.Promises.{laws}
 use Rattle.model.proofs.runs_stand.Goals as goal
 
 pub returns : goal.returns
-returns g c =
-    let K = g.K.Key.kind in
-    let V = g.V.Value.kind in
-    record {
-      lawful = promises.lawful K V;
-      trie = promises.trie K V;
-      keys = promises.keys K V;
-      marks = promises.marks K V;
-      listed = promises.listed K V;
-      fits = promises.fits K V;
-      equal_images = promises.equal_images K V;
-      free_cells = promises.free_cells K V;
-      one_image = promises.one_image K V;
-      symmetric = promises.symmetric K V;
-    }
+returns g c = laws g.K.Key.kind g.V.Value.kind

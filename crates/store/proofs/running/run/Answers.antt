@@ -1,9 +1,12 @@
-use Rattle.store.proofs.Promises.{completed}
+use Rattle.store.proofs.Promises.{completed, turned_away}
 use Rattle.store.proofs.running.run.Goals as goal
+
+pub returns-in_err-store : goal.returns-in_err-store
+returns-in_err-store g c =
+    turned_away g.K.Key.kind g.V.Value.kind _ _ c.args.nodes.now c.args.entries.now c.in_err-store.field-0.0 c.in_err-store.ensures c.args.calls.now c.args.answers.now c.args.out.now c.from_residual.result c.from_residual.ensures.1
 
 pub returns : goal.returns
 returns g c =
-    let s = c.in_ok-start.ensures in
-    completed g.K.Key.kind g.V.Value.kind _ _ c.args.nodes.now c.start.new.nodes c.args.entries.now c.start.new.entries
-    s.1.1 c.over-store.result c.over-store.ensures c.make_calls.new.self c.args.calls.now c.args.answers.now c.make_calls.new.answers c.args.out.now c.make_calls.new.out c.make_calls.result
-    s.0 s.1.0 c.make_calls.ensures
+    completed g.K.Key.kind g.V.Value.kind _ _ c.args.nodes.now c.args.entries.now c.in_ok-store.store c.in_ok-store.ensures
+    c.make_calls-made.new.self c.into_cells-nodes.result.0.now c.into_cells-nodes.result.1.now c.into_cells-nodes.ensures.nodes c.into_cells-nodes.ensures.entries
+    c.args.calls.now c.args.answers.now c.make_calls-made.new.answers c.args.out.now c.make_calls-made.new.out c.make_calls-made.result c.make_calls-made.ensures
