@@ -8,7 +8,7 @@ use Rattle.model.specs.Sharing.{Marked}
 use Rattle.model.specs.Accounts.{Version, Account, held_entries}
 use Rattle.model.specs.Runs.{live, Reached, LiveMapsAreLawful, MarkedNodesAreTheTrie, MarkedEntriesAreTheKeys, MarksAreNumbersOfCalls, HeldThingsCanBeListed, TablesHoldAll, EqualImagesMeanEqualMaps, FreeIsWhatNoVersionHolds, SameNamesMeanOneImage, SavesWriteTheImage, CompareSaysWhetherMapsAreEqual, AcceptedMergesLeaveAVersion, MergeIsSymmetric}
 use Rattle.model.specs.Laws.{LawsOfRuns}
-use Rattle.model.specs.Names.{NamesFollowTheCalls, PublishedVersionsAreGathered}
+use Rattle.model.specs.Effects.{AcceptedCallsHaveTheirEffects, OtherPlacesStay, RefusedCallsLeaveThePlaces, PublishedVersionsAreGathered}
 use Rattle.model.proofs.Counts.{distinct_within, distinct_length, in_row_member, member_in_row}
 use Rattle.model.proofs.Holding.{live_held}
 use Rattle.model.proofs.Images.Exact.{exact}
@@ -16,7 +16,7 @@ use Rattle.model.proofs.Images.Round.{same_image}
 use Rattle.model.proofs.Reached.{live_marked, reached_fits}
 use Rattle.model.proofs.Room.{can_list, held_fits, free_is_left}
 use Rattle.model.proofs.Runs.Invariants.{live_sound, live_uncrowded}
-use Rattle.model.proofs.Runs.Gathering.{names as names_follow, gathered as published_gathered}
+use Rattle.model.proofs.Runs.Effects.{effects as call_effects, others, refusals_leave, counted, lengths, gathered as published_gathered}
 use Rattle.model.proofs.Runs.Live.{saves as save_answers, compares as compare_answers}
 use Rattle.model.proofs.Runs.Merges.{merges_leave, merge_symmetric}
 use Rattle.model.proofs.Runs.Names.{same_names}
@@ -72,8 +72,14 @@ module _ (K : KeyKind) (V : ValueKind) where
   pub compares : CompareSaysWhetherMapsAreEqual K V
   compares = compare_answers K V (exact K V)
 
-  pub names : NamesFollowTheCalls K V
-  names = names_follow K V (exact K V)
+  pub effects : AcceptedCallsHaveTheirEffects K V
+  effects = call_effects K V (exact K V)
+
+  pub other_places : OtherPlacesStay K V
+  other_places = others K V (exact K V)
+
+  pub refusals : RefusedCallsLeaveThePlaces K V
+  refusals = refusals_leave K V (exact K V)
 
   pub gathered : PublishedVersionsAreGathered K V
   gathered = published_gathered K V (exact K V)
@@ -99,7 +105,11 @@ module _ (K : KeyKind) (V : ValueKind) where
     listed = listed;
     fits = fits;
     free_cells = free_cells;
-    names = names;
+    effects = effects;
+    others = other_places;
+    refused = refusals;
+    counted = counted K V;
+    lengths = lengths K V;
     gathered = gathered;
     one_image = one_image;
     merges = merges;

@@ -148,7 +148,7 @@ module _ (K : KeyKind) (V : ValueKind) (exact : OnlyImagesAreAccepted K V) where
 
   fits_after : (a : Account) → Reached K V a → (c : Call) → Made K V c → Fits a → Fits (after K V a c)
   fits_after a r c made fits =
-      let done = step K V a exact (Kept a) (λ v k. k.0) (all_marked a r) (λ o. After a fits o.places) (λ s. (fits.nodes, fits.entries)) c made (λ s i p e q. new_fits a fits i p q) in
+      let done = step K V a exact (Kept a) (λ v k. k.0) (all_marked a r) (λ o. After a fits o.places) (λ s. (fits.nodes, fits.entries)) c made (λ s i p o e q. new_fits a fits i p q) in
       record { nodes = done.0; entries = done.1; few = fits.few }
 
   pub reached_fits : (a : Account) → Reached K V a → Fits a

@@ -2,6 +2,6 @@
 pub mod Steps
 pub mod Invariants
 pub mod Live
-pub mod Gathering
+pub mod Effects
 pub mod Names
 pub mod Merges

@@ -6,6 +6,6 @@ pub mod Sharing
 pub mod Accounts
 pub mod Calls
 pub mod Runs
-pub mod Names
+pub mod Effects
 pub mod Laws
 pub mod Cases

@@ -87,7 +87,7 @@ abbrev pub MarkedEntriesAreTheKeys : KeyKind → ValueKind → Type 0
 MarkedEntriesAreTheKeys K V =
     (a : Account) → Reached K V a → (i : ℕ) (v : Version) → live a i ≡ Some v → ListsOnce (λ k. is_some (look v.settings k) ≡ true) (map (λ x. x.what) v.entries)
 
--- every mark is the number of a call that was made
+-- no mark is above the number of calls
 abbrev pub MarksAreNumbersOfCalls : KeyKind → ValueKind → Type 0
 MarksAreNumbersOfCalls K V =
     (a : Account) → Reached K V a → (i : ℕ) (v : Version) → live a i ≡ Some v →

@@ -7,6 +7,7 @@ use Rattle.kinds.specs.Refusals.{Refused, shown}
 use Rattle.model.specs.Accounts.{Account}
 use Rattle.model.specs.Calls.{Call, Answer, done, spare, refused, Outcome, Free, outcome, after, refuse}
 use Rattle.model.specs.Runs.{Made}
+use Rattle.model.proofs.Runs.Steps.{done_accepts}
 use Rattle.store.specs.Stores.{State, Represents, Started, Answered}
 use Rattle.branches.specs.declared.branch.Branch.{Branch}
 use Rattle.store.specs.declared.spot.Spot.{Spot}
@@ -17,9 +18,6 @@ use Rattle.store.proofs.Steps.{refused_step}
 use Rattle.store.proofs.Free.{free_is}
 
 -- done is no refusal
-pub done_accepts : (x : Refused) → done ≡ refused x → ⊥
-done_accepts x e = let z : ◌≡◌ {A = ℕ} 0 1 = cc in omega arith
-
 -- a refusal that is handed on
 pub handed_on : {A : Type 0} (f : A → Answer) (r : Result A Refusal) (x : Refusal) → IsErrAnd r (λ y. y ≡ x) → result_shown f r ≡ refused (shown x)
 handed_on f (Ok y) x e = absurd e
@@ -31,19 +29,21 @@ module _ {X Y : Type 0} (K : KeyKind) (V : ValueKind) (kb : X → List ℕ) (vb 
       (c : Call) (n : ℕ) (r : Answer) → r ≡ refused (refusals.refused n) → Made K V c
       → ((a : Account) → Represents K V kb vb S a → outcome K V a c ≡ refuse K V a n) → Answered K V kb vb S S c r
   turned_down c n r e made same = record {
+    made = made;
     account = λ a rep. (e ∙ sym (ap (λ (o : Outcome). o.answer) (same a rep)), refused_step K V kb vb S a rep c made (ap (λ (o : Outcome). o.places) (same a rep)));
     unchanged = λ x e. refl;
   }
 
   -- a call that the account does
   pub done_with :
-      (S' : State X Y) (c : Call) → ((a : Account) → Represents K V kb vb S a → (done ≡ (outcome K V a c).answer) × Represents K V kb vb S' (after K V a c))
+      (S' : State X Y) (c : Call) → Made K V c → ((a : Account) → Represents K V kb vb S a → (done ≡ (outcome K V a c).answer) × Represents K V kb vb S' (after K V a c))
       → Answered K V kb vb S S' c done
-  done_with S' c account = record { account = account; unchanged = λ x e. absurd (done_accepts x e) }
+  done_with S' c made account = record { made = made; account = account; unchanged = λ x e. absurd (done_accepts x e) }
 
   -- what is free
   pub free_answered : Answered K V kb vb S S Free (spare S.tables.spare S.tables.entry_spare)
   free_answered = record {
+    made = tt;
     account = λ a rep. let f = free_is K V kb vb S a rep in (cc, refused_step K V kb vb S a rep Free tt refl);
     unchanged = λ x e. refl;
   }

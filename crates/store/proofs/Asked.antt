@@ -49,6 +49,7 @@ module _ {X Y : Type 0} (K : KeyKind) (V : ValueKind) (kb : X → List ℕ) (vb 
       (k : List ℕ) → K.readable k ≡ true → i < 64 → (b : Branch) → IsLive (get_or S.places i Empty) b → (r : Option Y) → LookedUp K kb vb S.tables b 8 k r
       → Answered K V kb vb S S (LookUp i k) (found (bytes_found vb r))
   looked k key_reads inside b alive r done = record {
+    made = key_reads;
     account = λ a rep.
         let w = version_at a rep b alive in
         let o = is_place K V a i _ inside ∙ w.answers _ in (
@@ -60,6 +61,7 @@ module _ {X Y : Type 0} (K : KeyKind) (V : ValueKind) (kb : X → List ℕ) (vb 
 
   pub counts : i < 64 → (b : Branch) → IsLive (get_or S.places i Empty) b → (n : ℕ) → Counted K kb vb S.tables b 8 n → Answered K V kb vb S S (Count i) (counted n)
   counts inside b alive n done = record {
+    made = tt;
     account = λ a rep.
         let w = version_at a rep b alive in
         let o = is_place K V a i _ inside ∙ w.answers _ in (

@@ -57,6 +57,7 @@ module _ {X Y : Type 0} (K : KeyKind) (V : ValueKind) (kb : X → List ℕ) (vb 
 
     pub compares : i < 64 → j < 64 → (r : Bool) → Compared K kb vb S.tables b c 8 r → Answered K V kb vb S S (Compare i j) (equal r)
     compares inside inside_too r done = record {
+      made = tt;
       account = λ a rep.
           let v = version_at K V kb vb S i a rep b alive in
           let w = version_at K V kb vb S j a rep c alive_too in

@@ -27,7 +27,7 @@ module _ {X Y : Type 0} (K : KeyKind) (V : ValueKind) (kb : X → List ℕ) (vb 
       i < 64 → get_or S.places i Empty ≡ Empty
       → Answered K V kb vb S (record { tables = S.tables; places = set S.places i (Draft Nothing) }) (Open i) done
   opened h e =
-      done_with K V kb vb S _ (Open i)
+      done_with K V kb vb S _ (Open i) tt
       (λ a rep.
       let o = is_place K V a i _ h ∙ empty_is_empty K V a i _ (at_empty K V kb vb S a rep i e) in (
         sym (ap (λ (x : Outcome). x.answer) o),
@@ -105,7 +105,7 @@ module _ {X Y : Type 0} (K : KeyKind) (V : ValueKind) (kb : X → List ℕ) (vb 
       → HeldOn b U → EntriesStay S.tables U
       → Answered K V kb vb S (record { tables = U; places = set S.places i (Draft b) }) (OpenFrom i j) done
   opened_from j b U h k e f held stay =
-      done_with K V kb vb S _ (OpenFrom i j)
+      done_with K V kb vb S _ (OpenFrom i j) tt
       (λ a rep.
       let v = at_published K V kb vb S a rep j b f in
       let o : outcome K V a (OpenFrom i j) ≡ leave K V a done i (draft v.version) =

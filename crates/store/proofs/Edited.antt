@@ -14,6 +14,7 @@ use Rattle.tables.specs.Heaps.{Nodes, Entries, Entryless}
 use Rattle.tables.proofs.Occurrences.{occ_nil, occ_append}
 use Rattle.edits.specs.declared.estimate.Estimate.{Estimate}
 use Rattle.edits.specs.Sets.{Seen, Estimated, Ready, Done, ValueReads, value_bytes}
+use Rattle.model.proofs.Runs.Steps.{took_accepts}
 use Rattle.store.specs.declared.spot.Spot.{Spot}
 use Rattle.store.specs.declared.spot.Spot.TheVariants.{Empty, Draft}
 use Rattle.store.specs.Stores.{State, owners, Started, Answered}
@@ -29,10 +30,6 @@ use Rattle.store.proofs.Sets.{Edits, set_made, seen, set_crowded, set_no_room, s
 pub value_made : {Y : Type 0} (V : ValueKind) (vb : Y → List ℕ) → ((y : Y) → V.readable (vb y) ≡ true) → (x : Option Y) → ValueReads V (value_bytes vb x)
 value_made V vb law (Some y) = law y
 value_made V vb law None = tt
-
--- taken is no refusal
-pub took_accepts : (n e : ℕ) (x : Refused) → took n e ≡ refused x → ⊥
-took_accepts n e x p = let z : ◌≡◌ {A = ℕ} 0 1 = cc in omega arith
 
 pub as_often : (x y z r o o' b n : ℕ) → x ≡ r + o → y ≡ b + z → z ≡ r + o' → o' + b ≡ o + n → n ≡ 0 → x ≡ y
 as_often x y z r o o' b n e f g h w = omega arith
@@ -65,7 +62,7 @@ module _ {X Y : Type 0} {K : KeyKind} {V : ValueKind} {kb : X → List ℕ} {vb 
 
       module _ (nodes_fit : c.nodes ≤ S.tables.spare) (entries_fit : c.entries ≤ S.tables.entry_spare) where
         pub edit_kept : c.ours ≡ true → Answered K V kb vb S S (set_call i k x) (took c.nodes c.entries)
-        edit_kept o = record { account = λ a rep. set_kept m a rep c E calm nodes_fit entries_fit o; unchanged = λ y e. refl }
+        edit_kept o = record { made = set_made m; account = λ a rep. set_kept m a rep c E calm nodes_fit entries_fit o; unchanged = λ y e. refl }
 
         unfoldable pub edit_ready : c.ours ≡ false → Started K V kb vb S → Ready K V kb vb S.tables b k x 8
         edit_ready o started = ready m started.0 started.1 c E calm nodes_fit entries_fit o
@@ -84,6 +81,7 @@ module _ {X Y : Type 0} {K : KeyKind} {V : ValueKind} {kb : X → List ℕ} {vb 
 
           pub edit_built : (W : Tables X Y) → GivenUp (node_of b) U W → Answered K V kb vb S (record { tables = W; places = set S.places i (Draft r) }) (set_call i k x) (took c.nodes c.entries)
           edit_built W gone = record {
+            made = set_made m;
             account = λ a rep. set_built m a rep c E calm nodes_fit entries_fit o r U W done gone;
             unchanged = λ y e. absurd (took_accepts c.nodes c.entries y e);
           }

@@ -50,7 +50,7 @@ module _ {X Y : Type 0} (K : KeyKind) (V : ValueKind) (kb : X → List ℕ) (vb 
       (b : Branch) → i < 64 → get_or S.places i Empty ≡ Draft b
       → Answered K V kb vb S (record { tables = S.tables; places = set S.places i (Published b) }) (Publish i) done
   made_public b h e =
-      done_with K V kb vb S _ (Publish i)
+      done_with K V kb vb S _ (Publish i) tt
       (λ a rep.
       let v = at_draft K V kb vb S a rep i b e in
       let o : outcome K V a (Publish i) ≡ leave K V a done i (published (named K V a v.version)) = is_place K V a i _ h ∙ draft_is_draft K V a i _ v.version v.at in (
@@ -65,7 +65,7 @@ module _ {X Y : Type 0} (K : KeyKind) (V : ValueKind) (kb : X → List ℕ) (vb 
         (c : Call) (made : Made K V c) (s : Spot) → root_of s ≡ node_of b → get_or S.places i Empty ≡ s
         → ((a : Account) → Represents K V kb vb S a → outcome K V a c ≡ leave K V a done i empty) → Answered K V kb vb S S' c done
     emptied c made s root e is =
-        done_with K V kb vb S S' c
+        done_with K V kb vb S S' c made
         (λ a rep. (
           sym (ap (λ (z : Outcome). z.answer) (is a rep)),
           subst (λ (ps : List Spot). Represents K V kb vb (record { tables = S'.tables; places = ps }) (after K V a c)) (sym cleared)

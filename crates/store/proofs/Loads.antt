@@ -30,7 +30,7 @@ use Rattle.store.proofs.Reading.{at_empty}
 use Rattle.store.proofs.Steps.{refused_step, clear_now, nothing_given_up, replaced}
 use Rattle.store.proofs.Answering.{handed_on, turned_down}
 use Rattle.store.proofs.Sets.{le_of, no_entry}
-use Rattle.store.proofs.Edited.{took_accepts}
+use Rattle.model.proofs.Runs.Steps.{took_accepts}
 
 module _ {X Y : Type 0} (K : KeyKind) (V : ValueKind) (kb : X → List ℕ) (vb : Y → List ℕ) (S : State X Y) (i : ℕ) (bs : List ℕ) (row : byte_row bs ≡ true) (inside : i < 64) (at : get_or S.places i Empty ≡ Empty) where
   -- what the account makes of a verdict
@@ -49,6 +49,7 @@ module _ {X Y : Type 0} (K : KeyKind) (V : ValueKind) (kb : X → List ℕ) (vb 
       {B : Type 0} (f : B → Answer) (r : Result B Refusal) (x : Refusal) → IsErrAnd r (λ y. y ≡ x) → (n o : ℕ) → judge K V bs ≡ reading.refused n o → shown x ≡ refusals.refused_at n o
       → Answered K V kb vb S S (Load i bs) (result_shown f r)
   image_refused f r x on n o e w = record {
+    made = row;
     account = λ a rep.
         let z = judged a rep ∙ ap (by_verdict a) e in (
           handed_on f r x on ∙ ap refused w ∙ sym (ap (λ (y : Outcome). y.answer) z),
@@ -134,4 +135,4 @@ module _ {X Y : Type 0} (K : KeyKind) (V : ValueKind) (kb : X → List ℕ) (vb 
         load_ready started = may_load nodes entries C started.0 started.1 p q
 
         pub load_answered : (r : Branch) (U : Tables X Y) → Loaded K V kb vb S.tables bs r U → Answered K V kb vb S (record { tables = U; places = set S.places i (Published r) }) (Load i bs) (took nodes entries)
-        load_answered r U done = record { account = λ a rep. loads nodes entries C a rep p q r U done; unchanged = λ x e. absurd (took_accepts nodes entries x e) }
+        load_answered r U done = record { made = row; account = λ a rep. loads nodes entries C a rep p q r U done; unchanged = λ x e. absurd (took_accepts nodes entries x e) }

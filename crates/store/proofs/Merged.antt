@@ -39,7 +39,8 @@ use Rattle.store.proofs.Reading.{lawful_draft}
 use Rattle.store.proofs.Steps.{clear_now, replaced, turned}
 use Rattle.store.proofs.Answering.{turned_down, still_started}
 use Rattle.store.proofs.Sets.{le_of, few_owners, no_entry}
-use Rattle.store.proofs.Edited.{took_accepts, as_often}
+use Rattle.model.proofs.Runs.Steps.{took_accepts}
+use Rattle.store.proofs.Edited.{as_often}
 
 pub sound_from : (K : KeyKind) (V : ValueKind) (m : Map) → Lawful K V m → Sound K V m
 sound_from K V m l = record { rises = l.rises; reads = l.reads }
@@ -221,7 +222,7 @@ module _ {X Y : Type 0} {K : KeyKind} {V : ValueKind} {kb : X → List ℕ} {vb 
       module _ (p : c.nodes ≤ S.tables.spare) (q : c.entries ≤ S.tables.entry_spare) where
         pub roots_kept : c.ours ≡ true → RootsMerged K V kb vb S i ours base theirs S (Ok (c.nodes, c.entries))
         roots_kept o = record {
-          answered = λ call C. record { account = λ a rep. merge_kept K V kb vb S i ours base theirs inside some.at call C c E a rep p q e o; unchanged = λ x z. absurd (took_accepts c.nodes c.entries x z) };
+          answered = λ call C. record { made = C.made; account = λ a rep. merge_kept K V kb vb S i ours base theirs inside some.at call C c E a rep p q e o; unchanged = λ x z. absurd (took_accepts c.nodes c.entries x z) };
         }
 
         pub roots_ready : Started K V kb vb S → MayMerge K V kb vb S.tables ours base theirs 8
@@ -241,5 +242,5 @@ module _ {X Y : Type 0} {K : KeyKind} {V : ValueKind} {kb : X → List ℕ} {vb 
         pub roots_merged : (r : Branch) (U W : Tables X Y) → MergeDone K V kb vb S.tables ours base theirs 8 r U → GivenUp (node_of ours) U W
             → RootsMerged K V kb vb S i ours base theirs (record { tables = W; places = set S.places i (Draft r) }) (Ok (c.nodes, c.entries))
         roots_merged r U W done gone = record {
-          answered = λ call C. record { account = λ a rep. merge_built K V kb vb S i ours base theirs inside some.at call C c E a rep p q e r U W done gone; unchanged = λ x z. absurd (took_accepts c.nodes c.entries x z) };
+          answered = λ call C. record { made = C.made; account = λ a rep. merge_built K V kb vb S i ours base theirs inside some.at call C c E a rep p q e r U W done gone; unchanged = λ x z. absurd (took_accepts c.nodes c.entries x z) };
         }

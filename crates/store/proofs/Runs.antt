@@ -14,7 +14,7 @@ use Rattle.store.specs.declared.calls.Answer.TheVariants.{Done, Took, Found, Cou
 use Rattle.store.specs.Stores.{State, Represents, Answered}
 use Rattle.store.specs.Answers.{LentCall, call_shown, answer_shown}
 use Rattle.store.specs.Buffers.{Keeps, capacity_of, written, answers_shown, all_written, saved_bytes, made}
-use Rattle.store.specs.Runs.{first_calls, MadeCalls}
+use Rattle.store.specs.Runs.{first_calls, Steps, MadeCalls}
 
 -- ---- the account
 
@@ -83,6 +83,15 @@ module _ {Y : Type 0} (vb : Y → List ℕ) where
 
 -- ---- one call more
 
+-- one step more
+steps_more :
+    {X Y : Type 0} (K : KeyKind) (V : ValueKind) (kb : X → List ℕ) (vb : Y → List ℕ) (S T U : State X Y) (cs : List model.Call) (rs : List model.Answer) (c : model.Call) (r : model.Answer)
+    → Steps K V kb vb S cs rs T → Answered K V kb vb T U c r → Steps K V kb vb S (cs ++ (c ∷ [])) (rs ++ (r ∷ [])) U
+steps_more K V kb vb S T U [] [] c r s A = (U, (subst (λ (Z : State _ _). Answered K V kb vb Z U c r) (sym s) A, refl))
+steps_more K V kb vb S T U [] (q ∷ rs) c r s A = absurd s
+steps_more K V kb vb S T U (d ∷ cs) [] c r s A = absurd s
+steps_more K V kb vb S T U (d ∷ cs) (q ∷ rs) c r s A = (s.0, (s.1.0, steps_more K V kb vb s.0 T U cs rs c r s.1.1 A))
+
 module _ {X Y : Type 0} (K : KeyKind) (V : ValueKind) (kb : X → List ℕ) (vb : Y → List ℕ) where
   -- the calls so far, with one more
   first_more : (calls : List (LentCall X Y)) (n : ℕ) (c : LentCall X Y) → n < length calls → c ≡ get_or calls n c → first_calls K V kb vb (n + 1) calls ≡ first_calls K V kb vb n calls ++ (call_shown kb vb c ∷ [])
@@ -93,6 +102,7 @@ module _ {X Y : Type 0} (K : KeyKind) (V : ValueKind) (kb : X → List ℕ) (vb 
   pub record MadeTo (S S' : State X Y) (calls : List (LentCall X Y)) (old new : List (Answer Y)) (out out' : List ℕ) (n at : ℕ) : Type 0 where
     pub account : (a : Account) → Represents K V kb vb S a →
         (answers_shown vb out' (take n new) ≡ answers K V a (first_calls K V kb vb n calls)) × Represents K V kb vb S' (run K V a (first_calls K V kb vb n calls))
+    pub steps : Steps K V kb vb S (first_calls K V kb vb n calls) (answers_shown vb out' (take n new)) S'
     pub many : (a : Account) → Represents K V kb vb S a →
         made K V kb vb a calls (length old) (length out) ≡ n + made K V kb vb (run K V a (first_calls K V kb vb n calls)) (drop n calls) (length old - n) (length out - at)
     pub within : n ≤ length old
@@ -104,6 +114,7 @@ module _ {X Y : Type 0} (K : KeyKind) (V : ValueKind) (kb : X → List ℕ) (vb 
   pub none_made : (S : State X Y) (calls : List (LentCall X Y)) (old : List (Answer Y)) (out : List ℕ) → MadeTo S S calls old old out out 0 0
   none_made S calls old out = record {
     account = λ a s. (refl, s);
+    steps = refl;
     many = λ a s. let z : made K V kb vb a calls (length old) (length out) ≡ 0 + made K V kb vb a calls (length old - 0) (length out - 0) = ap₂ (λ (k l : ℕ). made K V kb vb a calls k l) (let y : length old ≡ length old - 0 = omega arith in y) (let y : length out ≡ length out - 0 = omega arith in y) ∙ omega arith in z;
     within = omega arith;
     long = refl;
@@ -119,6 +130,7 @@ module _ {X Y : Type 0} (K : KeyKind) (V : ValueKind) (kb : X → List ℕ) (vb 
       as_many = λ a s. omega (arith, M.many a s, stops a s);
       answered = λ a s. (M.account a s).0;
       account = λ a s. (M.account a s).1;
+      steps = M.steps;
       wrote = record { long = M.long; kept = M.kept; buffer = subst (λ (i : ℕ). Keeps i out out') M.at_is M.buffer };
     }
 
@@ -160,20 +172,27 @@ module _ {X Y : Type 0} (K : KeyKind) (V : ValueKind) (kb : X → List ℕ) (vb 
             let in_new : n < length new = omega (arith, M.long, in_old) in
             let taken : take (n + 1) new' ≡ take n new ++ (r ∷ []) = ap (take (n + 1)) w ∙ take_more_set new n r in_new in
             let room : written r ≤ length part' = omega (arith, kept_part.within, kept_part.long) in
+            let shown_is : answers_shown vb out'' (take (n + 1) new') ≡ answers_shown vb out' (take n new) ++ (answer_shown vb part' r ∷ []) =
+            ap (answers_shown vb out'') taken
+            ∙ shown_more vb out'' (take n new) r
+            ∙ ap₂ (λ (l : List model.Answer) (x : model.Answer). l ++ (x ∷ [])) (all_by_front vb (take n new) at out' part' (omega (arith, M.at_is)) at_in)
+            (ap (λ (i : ℕ). answer_shown vb (drop i out'') r) (sym M.at_is) ∙ ap (λ (l : List ℕ). answer_shown vb l r) past) in
             record {
               account = λ a s.
                   let before = M.account a s in
                   let step = A.account (run K V a (first_calls K V kb vb n calls)) before.1 in (
-                    ap (answers_shown vb out'') taken
-                        ∙ shown_more vb out'' (take n new) r
-                        ∙ ap₂ (λ (l : List model.Answer) (x : model.Answer). l ++ (x ∷ [])) (all_by_front vb (take n new) at out' part' (omega (arith, M.at_is)) at_in ∙ before.0)
-                        (ap (λ (i : ℕ). answer_shown vb (drop i out'') r) (sym M.at_is) ∙ ap (λ (l : List ℕ). answer_shown vb l r) past ∙ step.0)
+                    shown_is
+                        ∙ ap₂ (λ (l : List model.Answer) (x : model.Answer). l ++ (x ∷ [])) before.0 step.0
                         ∙ sym (answers_more K V a (first_calls K V kb vb n calls) (call_shown kb vb c))
                         ∙ ap (answers K V a) (sym (first_more calls n c inside here)),
                     subst (Represents K V kb vb S'')
                         (sym (ap (run K V a) (first_more calls n c inside here) ∙ run_more K V a (first_calls K V kb vb n calls) (call_shown kb vb c)))
                         step.1,
                   );
+              steps =
+                  subst (λ (l : List model.Call). Steps K V kb vb S l (answers_shown vb out'' (take (n + 1) new')) S'') (sym (first_more calls n c inside here))
+                  (subst (λ (l : List model.Answer). Steps K V kb vb S (first_calls K V kb vb n calls ++ (call_shown kb vb c ∷ [])) l S'') (sym shown_is)
+                  (steps_more K V kb vb S S' S'' (first_calls K V kb vb n calls) (answers_shown vb out' (take n new)) (call_shown kb vb c) (answer_shown vb part' r) M.steps A));
               many = λ a s.
                   let before = M.account a s in
                   let b : Account = run K V a (first_calls K V kb vb n calls) in

@@ -73,6 +73,7 @@ module _ {X Y : Type 0} (K : KeyKind) (V : ValueKind) (kb : X → List ℕ) (vb 
 
     pub saves : i < 64 → Answered K V kb vb S S (Save i (length old)) (saved_shown new r)
     saves inside = record {
+      made = tt;
       account = λ a rep.
           let w = version_at K V kb vb S i a rep b alive in
           let xs : List ℕ = image K V w.version.settings in

@@ -1,12 +1,12 @@
 -- What a list of calls on a new store promises. Assumes nothing.
-use Rattle.std.specs.Prelude.{◌≡◌, ℕ, ◌<◌, ◌≤◌, List, map, length, take, drop, Ok, Err, Result}
+use Rattle.std.specs.Prelude.{◌≡◌, ℕ, ◌<◌, ◌≤◌, List, [], ◌∷◌, map, length, take, drop, Ok, Err, Result}
 use Rattle.kinds.specs.Kinds.{KeyKind, ValueKind}
 use Rattle.model.specs.declared.limits.TheConstants.{MOST_CELLS}
 use Rattle.model.specs.Sharing.{Marked}
 use Rattle.model.specs.Accounts.{Account, fresh}
 use Rattle.model.specs.Calls as model
 use Rattle.model.specs.Calls.{run, answers}
-use Rattle.model.specs.Runs.{Reached, HoldsNode, HoldsEntry}
+use Rattle.model.specs.Runs.{AllMade, Reached, HoldsNode, HoldsEntry}
 use Rattle.model.specs.Laws.{LawsOfRuns}
 use Rattle.tables.specs.declared.cells.NodeCell.{NodeCell}
 use Rattle.tables.specs.declared.cells.EntryCell.{EntryCell}
@@ -15,14 +15,12 @@ use Rattle.store.specs.declared.calls.Answer.{Answer}
 use Rattle.store.specs.declared.running.Finished.{Finished}
 use Rattle.store.specs.declared.starting.NotStarted.{NotStarted}
 use Rattle.store.specs.Starts.{GivenBack}
-use Rattle.store.specs.Stores.{State, Represents}
+use Rattle.store.specs.Stores.{State, Represents, Answered}
 use Rattle.store.specs.Answers.{LentCall, call_shown}
 use Rattle.store.specs.Buffers.{Keeps, answers_shown, all_written, all_capacity, made}
 
--- the held cells of a table are one to one with what an account holds
-pub record OneCellEach (holders : ℕ → ℕ) (Holds : Marked → Type 0) : Type 0 where
-  -- what a cell stands for
-  pub label : ℕ → Marked
+-- the held cells of a table, by what each stands for, are one to one with what an account holds
+pub record OneCellEach (holders : ℕ → ℕ) (label : ℕ → Marked) (Holds : Marked → Type 0) : Type 0 where
   pub held : (i : ℕ) → 0 < holders i → Holds (label i)
   pub cell_of : (x : Marked) → Holds x → (i : ℕ) × ((0 < holders i) × (label i ≡ x))
   pub once : (i j : ℕ) → 0 < holders i → 0 < holders j → label i ≡ label j → i ≡ j
@@ -38,11 +36,19 @@ module _ {X Y : Type 0} (K : KeyKind) (V : ValueKind) (kb : X → List ℕ) (vb 
     pub kept : drop n new ≡ drop n old
     pub buffer : Keeps (all_written (take n new)) out out'
 
+  -- from one state to another by calls with their answers, each made as it promises by itself; so a refused one leaves each cell and place as it was
+  abbrev pub Steps : State X Y → List model.Call → List model.Answer → State X Y → Type 0
+  Steps S [] [] T = S ≡ T
+  Steps S [] (r ∷ rs) T = ⊥
+  Steps S (c ∷ cs) [] T = ⊥
+  Steps S (c ∷ cs) (r ∷ rs) T = (U : State X Y) × (Answered K V kb vb S U c r × Steps U cs rs T)
+
   -- a store that was S made the first n of the calls, as many as there was space for, and is now S': whichever account it stood for, each answer is the account's, and it stands for the account after them; the list of answers was old and is now new, the buffer was out and is now out'
   pub record MadeCalls (S S' : State X Y) (calls : List (LentCall X Y)) (old new : List (Answer Y)) (out out' : List ℕ) (n : ℕ) : Type 0 where
     pub as_many : (a : Account) → Represents K V kb vb S a → n ≡ made K V kb vb a calls (length old) (length out)
     pub answered : (a : Account) → Represents K V kb vb S a → answers_shown vb out' (take n new) ≡ answers K V a (first_calls n calls)
     pub account : (a : Account) → Represents K V kb vb S a → Represents K V kb vb S' (run K V a (first_calls n calls))
+    pub steps : Steps S (first_calls n calls) (answers_shown vb out' (take n new)) S'
     pub wrote : Wrote n old new out out'
 
   -- two tables, as they are left, stand for an account: there is a state of a store with these cells that represents it
@@ -52,8 +58,8 @@ module _ {X Y : Type 0} (K : KeyKind) (V : ValueKind) (kb : X → List ℕ) (vb 
     pub entries_are : state.tables.entries ≡ fs
     pub represents : Represents K V kb vb state a
     -- each node, and each entry, that a live version holds has one cell to itself; no other cell is held
-    pub held_nodes : OneCellEach (λ i. (cell ds i).holders) (HoldsNode a)
-    pub held_entries : OneCellEach (λ e. (entry_cell fs e).holders) (HoldsEntry a)
+    pub held_nodes : OneCellEach (λ i. (cell ds i).holders) (λ i. (represents.notes.node i).label) (HoldsNode a)
+    pub held_entries : OneCellEach (λ e. (entry_cell fs e).holders) (λ e. (represents.notes.entry e).label) (HoldsEntry a)
 
   -- a new store over tables that were cs and es, and are now ds and fs, made the first n of the calls, as many as there was space for in the list of answers, which was old and is now new, and in the buffer, which was out and is now out'
   pub record Completed (cs ds : List NodeCell) (es fs : List (EntryCell X Y)) (calls : List (LentCall X Y)) (old new : List (Answer Y)) (out out' : List ℕ) (n : ℕ) : Type 0 where
@@ -66,10 +72,16 @@ module _ {X Y : Type 0} (K : KeyKind) (V : ValueKind) (kb : X → List ℕ) (vb 
     pub answered : answers_shown vb out' (take n new) ≡ answers K V (fresh (length cs) (length es)) (first_calls n calls)
     -- the rest of the list, and of the buffer, is as it was
     pub wrote : Wrote n old new out out'
-    -- the calls lead to an account, for which the tables stand as they are left
-    pub reached : Reached K V (run K V (fresh (length cs) (length es)) (first_calls n calls))
+    -- the tables, as they are left, stand for the account that the calls lead to
     pub left : LeftFor ds fs (run K V (fresh (length cs) (length es)) (first_calls n calls))
-    -- what holds of it, and after every list of calls
+    -- a new store came to that state by these calls, one after another
+    pub begun : State X Y
+    pub begins : Represents K V kb vb begun (fresh (length cs) (length es))
+    pub steps : Steps begun (first_calls n calls) (answers_shown vb out' (take n new)) left.state
+    -- the calls are of keys, values and images, so that the laws of runs hold of them, and of every account on the way
+    pub lawful_calls : AllMade K V (first_calls n calls)
+    pub reached : (m : ℕ) → m ≤ n → Reached K V (run K V (fresh (length cs) (length es)) (first_calls m calls))
+    -- what holds after every list of calls, this one or any other
     pub laws : LawsOfRuns K V
 
 -- a table is longer than 65,535 cells: refused with 2; the tables come back as they were, and the list of answers and the buffer are as they were

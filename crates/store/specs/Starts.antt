@@ -1,5 +1,6 @@
 -- What starting a store promises. Assumes nothing.
 use Rattle.std.specs.Prelude.{◌≡◌, ℕ, ◌<◌, ◌≤◌, ◌⊎◌, List, length, Ok, Err, Result}
+use Rattle.std.specs.Borrow.{MutBor}
 use Rattle.kinds.specs.Kinds.{KeyKind, ValueKind}
 use Rattle.kinds.specs.Refusals.{refused, shown}
 use Rattle.model.specs.declared.limits.TheConstants.{MOST_CELLS}
@@ -15,6 +16,10 @@ pub record GivenBack {X Y : Type 0} (cs : List NodeCell) (es : List (EntryCell X
   pub too_long : (MOST_CELLS < length cs) ⊎ (MOST_CELLS < length es)
   pub nodes : u.nodes.now ≡ cs
   pub entries : u.entries.now ≡ es
+
+-- and by the very references that they were lent by
+abbrev pub SameSlices : {X Y : Type 0} → MutBor (List NodeCell) → MutBor (List (EntryCell X Y)) → NotStarted X Y → Type 0
+SameSlices cs es u = (u.nodes.ghost_name ≡ cs.ghost_name) × (u.entries.ghost_name ≡ es.ghost_name)
 
 -- a store that stands for a new account over so many cells
 pub record Begun {X Y : Type 0} (K : KeyKind) (V : ValueKind) (kb : X → List ℕ) (vb : Y → List ℕ) (cs : List NodeCell) (es : List (EntryCell X Y)) (S : State X Y) : Type 0 where

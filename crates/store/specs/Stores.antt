@@ -5,7 +5,7 @@ use Rattle.kinds.specs.Refusals.{Refused}
 use Rattle.model.specs.declared.limits.TheConstants.{PLACES}
 use Rattle.model.specs.Accounts.{Account, Place, empty, draft, published, whole}
 use Rattle.model.specs.Calls.{Call, Answer, refused, outcome, after}
-use Rattle.model.specs.Runs.{Reached}
+use Rattle.model.specs.Runs.{Made, Reached}
 use Rattle.tables.specs.Cells.{cell, entry_cell}
 use Rattle.branches.specs.States.{Tables, Notes, Sits}
 use Rattle.branches.specs.Branches.{Is, node_of}
@@ -59,7 +59,8 @@ pub record Represents {X Y : Type 0} (K : KeyKind) (V : ValueKind) (kb : X → L
 abbrev pub Started : {X Y : Type 0} → KeyKind → ValueKind → (X → List ℕ) → (Y → List ℕ) → State X Y → Type 0
 Started K V kb vb S = (a : Account) × Represents K V kb vb S a
 
--- a call answered as the account answers, whichever account the store stood for, and left the store standing for the account after it; a refusal left all as it was
+-- a call of keys and values of the kinds answered as the account answers, whichever account the store stood for, and left the store standing for the account after it; a refusal left all as it was
 pub record Answered {X Y : Type 0} (K : KeyKind) (V : ValueKind) (kb : X → List ℕ) (vb : Y → List ℕ) (S S' : State X Y) (c : Call) (r : Answer) : Type 0 where
+  pub made : Made K V c
   pub account : (a : Account) → Represents K V kb vb S a → (r ≡ (outcome K V a c).answer) × Represents K V kb vb S' (after K V a c)
   pub unchanged : (x : Refused) → r ≡ refused x → S' ≡ S

@@ -1,5 +1,7 @@
 // A list of calls on a new store.
+ghost use Rattle.std.specs.Prelude.{IfErr};
 ghost use Rattle.store.specs.Runs.{MadeCalls, Ran};
+ghost use Rattle.store.specs.Starts.{SameSlices};
 
 use super::calls::{Answer, Call};
 use super::starting::{NotStarted, start};
@@ -54,7 +56,8 @@ pub fn run<'a, K: Key, V: Value>(
     answers: &mut [Answer<V>],
     out: &mut [u8],
 ) -> Result<Finished<'a, K, V>, NotStarted<'a, K, V>>
-    ensures { Ran K.kind V.kind K.bytes V.bytes nodes.old entries.old calls.now answers.old answers.new out.old out.new result }
+    ensures same_slices { IfErr result (SameSlices nodes.entry entries.entry) }
+    ensures ran { Ran K.kind V.kind K.bytes V.bytes nodes.old entries.old calls.now answers.old answers.new out.old out.new result }
 {
     let mut store = start(nodes, entries)?;
     let made = store.make_calls(calls, answers, out);

@@ -1,10 +1,10 @@
 // A new store.
-ghost use Rattle.std.specs.Prelude.{◌≡◌, List};
+ghost use Rattle.std.specs.Prelude.{◌≡◌, List, IfErr};
 ghost use Rattle.tables.specs.declared.cells.NodeCell.{NodeCell};
 ghost use Rattle.tables.specs.declared.cells.EntryCell.{EntryCell};
 ghost use Rattle.tables.specs.Starts.{Formatted};
 ghost use Rattle.store.specs.Fresh.{new_state};
-ghost use Rattle.store.specs.Starts.{New};
+ghost use Rattle.store.specs.Starts.{New, SameSlices};
 
 use super::spot::Spot;
 use super::store::Store;
@@ -67,7 +67,8 @@ pub fn start<'a, K: Key, V: Value>(
     nodes: &'a mut [NodeCell],
     entries: &'a mut [EntryCell<K, V>],
 ) -> Result<Store<'a, K, V>, NotStarted<'a, K, V>>
-    ensures { New K.kind V.kind K.bytes V.bytes nodes.old entries.old result }
+    ensures store { New K.kind V.kind K.bytes V.bytes nodes.old entries.old result }
+    ensures same_slices { IfErr result (SameSlices nodes.entry entries.entry) }
 {
     match tables::start(nodes, entries) {
         Ok(()) => Ok(Store::over(nodes, entries)),

@@ -8,7 +8,7 @@ use Rattle.model.specs.Maps.{Sound}
 use Rattle.model.specs.Tries.{Uncrowded}
 use Rattle.model.specs.Accounts.{Version, Place, empty, draft, published, Account, nth, fresh}
 use Rattle.model.specs.Calls.{Call, after, run}
-use Rattle.model.specs.Runs.{live, Made, Reached}
+use Rattle.model.specs.Runs.{live, Made, AllMade, Reached}
 use Rattle.model.specs.Reading.{OnlyImagesAreAccepted}
 use Rattle.model.proofs.Maps.Order.{sound_empty}
 use Rattle.model.proofs.Maps.Crowds.{uncrowded_empty}
@@ -81,6 +81,10 @@ module _ (K : KeyKind) (V : ValueKind) where
         comes = run_one_more r.calls (fresh r.nodes r.entries) c ∙ ap (λ b. after K V b c) r.comes;
       }
 
+  pub reached_run : (a : Account) → Reached K V a → (cs : List Call) → AllMade K V cs → Reached K V (run K V a cs)
+  reached_run a r [] made = r
+  reached_run a r (c ∷ cs) made = reached_run (after K V a c) (reached_after a c (made c (Memᴰ.head refl)) r) cs (λ d m. made d (Memᴰ.tail m))
+
   -- as `reached_keeps`, where a call has only to keep it in reached accounts
   pub reached_keeps_on : (I : Account → Type 0) → ((a : Account) → Reached K V a → (c : Call) → Made K V c → I a → I (after K V a c)) →
       ((n e : ℕ) → n ≤ 65535 → e ≤ 65535 → I (fresh n e)) → (a : Account) → Reached K V a → I a
@@ -116,7 +120,7 @@ module _ (K : KeyKind) (V : ValueKind) where
               let on = all_hold_weaker (λ v. Good v × P a.calls v) (λ v. Good v × P (a.calls + 1) v) (λ v q. (q.0, later a.calls v q.0 q.1)) a.places h in
               step K V a exact (λ v. Good v × P a.calls v) (λ v q. q.0) h (λ o. AllByRecursion (Holds (λ v. Good v × P (a.calls + 1) v)) o.places) (λ s. on)
               c made
-              (λ s i p w q. All-set (Holds (λ v. Good v × P (a.calls + 1) v)) a.places i p
+              (λ s i p o w q. All-set (Holds (λ v. Good v × P (a.calls + 1) v)) a.places i p
               (holds_both Good (P (a.calls + 1)) p (new_good (λ v. Good v × P a.calls v) (λ v x. x.0) a q) (new a r h i p q)) on)
 
       pub live_keeps : (a : Account) → Reached K V a → (i : ℕ) (v : Version) → live a i ≡ Some v → P a.calls v
@@ -127,7 +131,7 @@ module _ (K : KeyKind) (V : ValueKind) where
     reached_good =
         reached_keeps (λ a. AllByRecursion (Holds Good) a.places)
         (λ a c made h. step K V a exact Good (λ v q. q) h (λ o. AllByRecursion (Holds Good) o.places) (λ s. h) c made
-        (λ s i p w q. All-set (Holds Good) a.places i p (new_good Good (λ v x. x) a q) h))
+        (λ s i p o w q. All-set (Holds Good) a.places i p (new_good Good (λ v x. x) a q) h))
         (λ n e x y. all_empty Good 64)
 
     pub live_good : (a : Account) → Reached K V a → (i : ℕ) (v : Version) → live a i ≡ Some v → Good v

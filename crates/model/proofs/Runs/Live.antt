@@ -33,7 +33,7 @@ module _ (K : KeyKind) (V : ValueKind) where
       where
         keeps : (a : Account) → Reached K V a → (c : Call) → Made K V c → length a.places ≡ PLACES → length (after K V a c).places ≡ PLACES
         keeps a r c made h =
-            step K V a exact (Good K V) (λ v q. q) (reached_good K V exact a r) (λ o. length o.places ≡ PLACES) (λ s. h) c made (λ s i p w q. length-set a.places i p ∙ h)
+            step K V a exact (Good K V) (λ v q. q) (reached_good K V exact a r) (λ o. length o.places ≡ PLACES) (λ s. h) c made (λ s i p o w q. length-set a.places i p ∙ h)
 
     pub live_place : (a : Account) → Reached K V a → (i : ℕ) (v : Version) → live a i ≡ Some v → i < PLACES
     live_place a r i v e = omega (arith, live_within a.places i v e, all_places a r)
@@ -64,7 +64,7 @@ module _ (K : KeyKind) (V : ValueKind) where
     same_map v.settings w.settings,
     (
       ap (λ (o : Outcome). o.answer)
-      (at_place a i _ (live_place exact a r i v e) ∙ at_place a j _ (live_place exact a r j w f) ∙ at_live a i _ v e ∙ at_live a j _ w f),
+          (at_place a i _ (live_place exact a r i v e) ∙ at_place a j _ (live_place exact a r j w f) ∙ at_live a i _ v e ∙ at_live a j _ w f),
       (same_map_true v.settings w.settings, λ h. subst (λ (m : Map). same_map v.settings m ≡ true) h (same_map_self v.settings)),
     ),
   )

@@ -181,7 +181,7 @@ module _ (K : KeyKind) (V : ValueKind) where
         step K V a exact (Told K V t.of a.calls) (λ v q. (q.sound, q.uncrowded)) t.told (Leaves a)
         (λ r. record { of = t.of; good = t.good; told = still_told a t.of t.good t.of (λ i h. refl) t.told })
         c made
-        (λ r i p w n. let g = grown a t.of t.good n in
+        (λ r i p o w n. let g = grown a t.of t.good n in
         record {
           of = g.of;
           good = g.good;

@@ -3,6 +3,7 @@ use Rattle.std.proofs.Common.{◌≡◌, ℕ, zero, suc, ◌<◌, ◌≤◌, Boo
 use Rattle.std.specs.List.{AllByRecursion}
 use Rattle.std.proofs.lemmas.Bool.{and_parts, leb-true, leb-false}
 use Rattle.kinds.specs.Kinds.{KeyKind, ValueKind}
+use Rattle.kinds.specs.Refusals.{Refused}
 use Rattle.kinds.specs.Refusals as refusals
 use Rattle.model.specs.declared.limits.TheConstants.{PLACES}
 use Rattle.model.specs.Maps.{Map, put, remove, union, merge, Sound}
@@ -13,11 +14,21 @@ use Rattle.model.specs.Sharing.{Shared, shared, no_share}
 use Rattle.model.specs.Accounts.{Version, Place, empty, draft, published, Account, nth, whole, free_nodes, free_entries}
 use Rattle.model.specs.Calls.{Call, Answer, done, took, saved, refused, Outcome, at, now, refuse, reply, leave, on_place, on_live, on_published, on_empty, on_draft, on_uncrowded, result, version, both_names, named, outcome}
 use Rattle.model.specs.Runs.{Made}
-use Rattle.model.specs.Names.{place_of}
+use Rattle.model.specs.Effects.{place_of}
 use Rattle.model.specs.Reading as reading
 use Rattle.model.specs.Calls as Calls
 use Rattle.model.proofs.Maps.Edits.{sound_put, sound_remove, sound_union, sound_merge}
 use Rattle.model.proofs.Maps.Crowds.{uncrowded, uncrowded_remove}
+
+-- an answer that is no refusal
+abbrev pub Accepting : Answer → Type 0
+Accepting r = (x : Refused) → r ≡ refused x → ⊥
+
+pub done_accepts : Accepting done
+done_accepts x e = cc
+
+pub took_accepts : (n m : ℕ) → Accepting (took n m)
+took_accepts n m x e = cc
 
 -- what holds of the version at a place, if there is one
 abbrev pub Holds : (Version → Type 0) → Place → Type 0
@@ -153,37 +164,37 @@ module _ (K : KeyKind) (V : ValueKind) (a : Account) where
         }
 
     -- a call leaves the places as they were, or the one that it may change new
-    pub step : (c : Call) → Made K V c → ((r : Answer) (i : ℕ) (p : Place) → place_of c ≡ Some i → New P i p → Q (leave K V a r i p)) → Q (outcome K V a c)
-    step (Calls.Open i) h new = past_place Q refusal i _ (past_empty Q refusal i _ (new done i _ refl opened))
+    pub step : (c : Call) → Made K V c → ((r : Answer) (i : ℕ) (p : Place) → Accepting r → place_of c ≡ Some i → New P i p → Q (leave K V a r i p)) → Q (outcome K V a c)
+    step (Calls.Open i) h new = past_place Q refusal i _ (past_empty Q refusal i _ (new done i _ done_accepts refl opened))
     step (Calls.OpenFrom i j) h new =
-        past_place Q refusal i _ (past_place Q refusal j _ (past_published Q refusal j _ λ v e. past_empty Q refusal i _ (new done i _ refl (copied j v (at_published j v e) e))))
+        past_place Q refusal i _ (past_place Q refusal j _ (past_published Q refusal j _ λ v e. past_empty Q refusal i _ (new done i _ done_accepts refl (copied j v (at_published j v e) e))))
     step (Calls.Put i k v) h new =
         past_place Q refusal i _ (past_draft Q refusal i _ λ d e.
         let m : Map = put K d.settings k v in
         past_uncrowded Q refusal m _ λ u. past_result Q refusal i (d ∷ []) m _ λ s x y z.
-        new _ i _ refl (edited (d ∷ []) m s (from_one i d e m s (sound_put K V d.settings k (lawful d (at_draft i d e)).0 h.0 v h.1) u x y z)))
+        new _ i _ (took_accepts _ _) refl (edited (d ∷ []) m s (from_one i d e m s (sound_put K V d.settings k (lawful d (at_draft i d e)).0 h.0 v h.1) u x y z)))
     step (Calls.Remove i k) h new =
         past_place Q refusal i _ (past_draft Q refusal i _ λ d e.
         let m : Map = remove K d.settings k in
         let g = lawful d (at_draft i d e) in
         past_result Q refusal i (d ∷ []) m _ λ s x y z.
-        new _ i _ refl (edited (d ∷ []) m s (from_one i d e m s (sound_remove K V d.settings k g.0 h) (uncrowded_remove K V d.settings k g.0 h g.1) x y z)))
+        new _ i _ (took_accepts _ _) refl (edited (d ∷ []) m s (from_one i d e m s (sound_remove K V d.settings k g.0 h) (uncrowded_remove K V d.settings k g.0 h g.1) x y z)))
     step (Calls.Union i j) h new =
         past_place Q refusal i _ (past_place Q refusal j _ (past_published Q refusal j _ λ o f. past_draft Q refusal i _ λ d e.
         let m : Map = union K V d.settings o.settings in
         past_uncrowded Q refusal m _ λ u. past_result Q refusal i (d ∷ (o ∷ [])) m _ λ s x y z.
-        new _ i _ refl (united d o s
+        new _ i _ (took_accepts _ _) refl (united d o s
         (from_two i j d o e f m s (sound_union K V d.settings o.settings (lawful d (at_draft i d e)).0 (lawful o (at_published j o f)).0) u x y z))))
     step (Calls.Merge i b t) h new =
         past_place Q refusal i _ (past_place Q refusal b _ (past_place Q refusal t _ (past_published Q refusal b _ λ base g. past_published Q refusal t _ λ theirs f. past_draft Q refusal i _ λ d e.
         let m : Map = merge K V d.settings base.settings theirs.settings in
         past_uncrowded Q refusal m _ λ u. past_result Q refusal i (d ∷ (theirs ∷ [])) m _ λ s x y z.
-        new _ i _ refl (edited (d ∷ (theirs ∷ [])) m s
+        new _ i _ (took_accepts _ _) refl (edited (d ∷ (theirs ∷ [])) m s
         (from_two i t d theirs e f m s
         (sound_merge K V d.settings base.settings theirs.settings (lawful d (at_draft i d e)).0 (lawful theirs (at_published t theirs f)).0) u x y z)))))
-    step (Calls.Publish i) h new = past_place Q refusal i _ (past_draft Q refusal i _ λ v e. new done i _ refl (issued i v (at_draft i v e) e))
-    step (Calls.Abandon i) h new = past_place Q refusal i _ (past_draft Q refusal i _ λ v e. new done i _ refl cleared)
-    step (Calls.Retire i) h new = past_place Q refusal i _ (past_published Q refusal i _ λ v e. new done i _ refl cleared)
+    step (Calls.Publish i) h new = past_place Q refusal i _ (past_draft Q refusal i _ λ v e. new done i _ done_accepts refl (issued i v (at_draft i v e) e))
+    step (Calls.Abandon i) h new = past_place Q refusal i _ (past_draft Q refusal i _ λ v e. new done i _ done_accepts refl cleared)
+    step (Calls.Retire i) h new = past_place Q refusal i _ (past_published Q refusal i _ λ v e. new done i _ done_accepts refl cleared)
     step (Calls.Load i bs) h new = past_place Q refusal i _ (past_empty Q refusal i _ (go (judge K V bs) (λ m e. let l = (exact bs m h e).1 in (record { rises = l.rises; reads = l.reads }, l.uncrowded))))
       where
         go : (j : Verdict) → ((m : Map) → j ≡ accepted m → Sound K V m × Uncrowded K m) →
@@ -193,7 +204,7 @@ module _ (K : KeyKind) (V : ValueKind) (a : Account) where
             ])
         go (accepted m) g =
             past_result Q refusal i [] m _ λ s x y z.
-            new _ i _ refl (loaded m s (record { from = tt; live = tt; shares = x; nodes_fit = y; entries_fit = z; sound = (g m refl).0; uncrowded = (g m refl).1 }))
+            new _ i _ (took_accepts _ _) refl (loaded m s (record { from = tt; live = tt; shares = x; nodes_fit = y; entries_fit = z; sound = (g m refl).0; uncrowded = (g m refl).1 }))
         go (reading.refused n o) g = kept (refused (refusals.refused_at n o))
     step (Calls.LookUp i k) h new = past_place Q refusal i _ (past_live Q refusal i _ λ v. kept _)
     step (Calls.Count i) h new = past_place Q refusal i _ (past_live Q refusal i _ λ v. kept _)
