@@ -1,9 +1,9 @@
-pub mod Digits
+pub mod HashDigits
 pub mod Prefixes
-pub mod Going
+pub mod Readings
+pub mod MapDigits
 pub mod Commands
-pub mod Bits
-pub mod Entering
-pub mod Crowds
-pub mod Below
-pub mod Wholes
+pub mod EntryReadings
+pub mod CollisionReadings
+pub mod NodeReadings
+pub mod ImageReadings

@@ -1,7 +1,9 @@
+pub mod Cursors
 pub mod Operands
 pub mod Dues
+pub mod Commands
+pub mod Readings
 pub mod Prefixes
-pub mod Readers
 pub mod Entries
 pub mod Nodes
 pub mod Judging

@@ -2,8 +2,8 @@
 ghost use Rattle.std.specs.Prelude.{◌≡◌, [], length};
 ghost use Rattle.model.specs.Images.{header};
 ghost use Rattle.model.specs.Reading.{got, end_in};
-ghost use Rattle.image_reader.specs.Judging.{headed, rooted, JudgedAs};
-ghost use Rattle.image_reader.specs.Readers.{Within, Passed};
+ghost use Rattle.image_reader.specs.Judging.{whole, rooted, JudgedAs};
+ghost use Rattle.image_reader.specs.Readings.{StepOutcome};
 
 use super::due::Due;
 use super::operands::read_count;
@@ -22,11 +22,11 @@ fn own_header<K: Key, V: Value>() -> [u8; 3]
 impl Reader<'_> {
     // The header, which has to name this edition and these kinds.
     fn header<K: Key, V: Value>(&mut self) -> Result<(), Refusal>
-        requires within { Within self.old }
-        requires start { self.old.at ≡ 0 }
-        ensures { Passed (headed K.kind V.kind) (rooted K.kind V.kind) self.old self.new result }
+        requires { self.old.at ≡ 0 }
+        ensures { let next = rooted K.kind V.kind in
+            StepOutcome (whole K.kind V.kind) next self.old self.new result }
     {
-        let command = self.command(Due::Header)?;
+        let command = self.command::<K, V>(Due::Header)?;
         if !byte_rows::same_rows(command.operands, &own_header::<K, V>()) {
             return Err(Refusal::Foreign { at: command.at });
         }
@@ -35,9 +35,9 @@ impl Reader<'_> {
 
     // The end, which has to have the number of entries, and nothing after it.
     fn end(&self, command: Command, count: usize) -> Result<(), Refusal>
-        requires within { Within self.now }
-        requires four { length command.operands.now ≡ 4 }
-        ensures { Passed (end_in count command.entry.at command.entry.operands.now) (got []) self.now self.now result }
+        requires { length command.operands.now ≡ 4 }
+        ensures { let c = command.entry in
+            StepOutcome (end_in count c.at c.operands.now) (got []) self.now self.now result }
     {
         if read_count(command.operands) as usize != count {
             return Err(command.broken());
@@ -49,17 +49,19 @@ impl Reader<'_> {
     }
 }
 
-// Judges a whole image: accepted, or the refusal with the offset of the first faulty command.
+/// Judges a whole image of the kinds `K` and `V`: accepted where it is the image of some map.
+///
+/// Refused as 7 (foreign), 8 (cut) or 9 (broken), with the offset of its first faulty command.
 pub fn judge<K: Key, V: Value>(image: &[u8]) -> Result<(), Refusal>
     ensures { JudgedAs K.kind V.kind image.now result }
 {
     let mut reader = Reader::new(image);
     reader.header::<K, V>()?;
-    let command = reader.command(Due::RootOrEnd)?;
+    let command = reader.command::<K, V>(Due::RootOrEnd)?;
     if command.byte == END {
         return reader.end(command, 0);
     }
     let count = reader.node::<K, V>(command, Prefix::root())?;
-    let end = reader.command(Due::End)?;
+    let end = reader.command::<K, V>(Due::End)?;
     reader.end(end, count)
 }

@@ -1,4 +1,5 @@
-// The reader of images: a whole image is judged, and refused at its first faulty command.
+// The reader of images: a whole image is judged, and refused at its first faulty command; one that
+// was judged is read command by command.
 #![tactic(auto)]
 
 mod due;
