@@ -1,5 +1,5 @@
 -- Where a part goes on no further by digits: nothing, one entry, or a collision node. Assumes nothing.
-use Rattle.std.proofs.Common.{◌≡◌, ℕ, ◌<◌, true, false, eqb, ltb, List, [], ◌∷◌, ◌++◌, map, length, sym, refl, ap, ◌∙◌, subst, arith}
+use Rattle.std.proofs.Common.{◌≡◌, ℕ, ◌<◌, true, false, eqb, ltb, List, [], ◌∷◌, ◌++◌, map, length, sym, ap, ◌∙◌, subst, arith}
 use Rattle.std.specs.List.{flat_map}
 use Rattle.std.proofs.lemmas.List.{append-nil}
 use Rattle.std.proofs.lemmas.Bool.{cond-true, cond-false, le-ltb}
@@ -18,10 +18,6 @@ use Rattle.branches.proofs.Under.{label_key}
 use Rattle.branches.proofs.Below.{same_part}
 
 -- ---- nothing
-
--- below nothing is nothing
-pub nothing_below : (K : KeyKind) (p : List ℕ) (g : ℕ) → below K p g no_part ≡ no_part
-nothing_below K p g = refl
 
 module _ {X Y : Type 0} (K : KeyKind) (kb : X → List ℕ) (vb : Y → List ℕ) (T : Tables X Y) (N : Notes) (R E : List ℕ) (S : Sits K kb vb T N R E) where
   -- ---- one entry
@@ -71,8 +67,3 @@ module _ {X Y : Type 0} (K : KeyKind) (kb : X → List ℕ) (vb : Y → List ℕ
 
     pub deep_held : (e : ℕ) → 0 < occ e (singles (cell T.nodes i)) → 0 < (entry_cell T.entries e).holders
     deep_held = single_held T.nodes T.entries T.entry_free T.entry_spare E S.entries i
-
-    pub deep_nodes : a.nodes ≡ (N.node i).label ∷ []
-    deep_nodes =
-        sym St.nodes ∙ (S.means.fits i St.held).nodes_are
-        ∙ ap (λ l. (N.node i).label ∷ flat_map (λ g. (N.node ((N.node i).child g)).nodes) l) no_branches

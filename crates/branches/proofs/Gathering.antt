@@ -3,8 +3,7 @@ use Rattle.std.proofs.Common.{◌≡◌, ℕ, suc, ◌+◌, ◌*◌, ◌<◌, �
 use mathlib.Core.List.Memᴰ
 use Rattle.std.specs.List.{range_with_len, AllByRecursion}
 use Rattle.std.proofs.lemmas.List.{append-nil, length-map}
-use Rattle.std.proofs.lemmas.List.Sums.{sum_by-cons}
-use Rattle.std.proofs.lemmas.Bool.{cases_eq, cond-true, cond-false, eq-eqb, ne_eqb, eqb-true, lt-ltb, ltb-true}
+use Rattle.std.proofs.lemmas.Bool.{cases_lt, cond-true, cond-false, ne_eqb, eqb-true, lt-ltb, ltb-true}
 use Rattle.kinds.specs.Kinds.{KeyKind}
 use Rattle.model.specs.Maps.{Setting, Map}
 use Rattle.model.specs.Tries.{filter, digit, at_digit, one, many, parts}
@@ -19,7 +18,7 @@ use Rattle.tables.specs.Chains.{occ}
 use Rattle.tables.specs.Cells.{kids, singles}
 use Rattle.tables.specs.Heaps.{NodeMade}
 use Rattle.tables.specs.Notes.{branches, own, Stands}
-use Rattle.tables.proofs.Occurrences.{hit_other, occ_nil, occ_cons, occ_head, occ_append}
+use Rattle.tables.proofs.Occurrences.{occ_head, occ_append}
 use Rattle.plans.specs.Plans.{total, bushy, portion}
 use Rattle.plans.proofs.Rows.{sixteen_is}
 use Rattle.plans.proofs.Digits.{length_by_digits}
@@ -29,9 +28,9 @@ use Rattle.branches.specs.declared.branch.Branch.TheVariants.{Nothing, Entry, Ch
 use Rattle.branches.specs.States.{Tables, Notes, Sits, Clear, Under, Led}
 use Rattle.branches.specs.Branches.{part_of, node_of, entry_of, Built}
 use Rattle.branches.specs.Hands.{share_at, Before, BeforeKey, Hand, Gathered}
-use Rattle.branches.proofs.Growing.{grown_to, clear_grown, clear_to, sits_same, EntriesStay}
+use Rattle.branches.proofs.Growing.{grown_to, clear_grown, clear_to, EntriesStay}
 use Rattle.branches.proofs.Picks.{leads_less, leads_apart, entry_nodes, picked_more, filter_more, sizes_le, sizes_alone, picked_mem, picked_below}
-use Rattle.branches.proofs.Hands.{hand_none, hand_more, hand_node}
+use Rattle.branches.proofs.Hands.{hand_none, hand_same, hand_entry, hand_child, hand_as, hand_node}
 
 -- ---- what a test on a part says
 
@@ -89,30 +88,47 @@ module _ {X Y : Type 0} (K : KeyKind) (kb : X → List ℕ) (vb : Y → List ℕ
     abbrev share_here : Shared
     share_here = portion K n h (p ++ (g ∷ [])) (map (below K p g) sources) here
 
+    abbrev mine : Map
+    mine = picked one (λ q. q) (map (at_digit K (length p) m) (range_with_len 0 g))
+
+    abbrev before : List ℕ
+    before = filter (λ x. many (at_digit K (length p) m x)) (range_with_len 0 g)
+
+    -- the digit is not there yet
+    not_yet : occ g before ≡ 0
+    not_yet =
+        elim (cases_lt 0 (occ g before)) [
+          | inl q ↦
+              absurd (omega (arith, picked_below (λ x. many (at_digit K (length p) m x)) g g q))
+          | inr q ↦ omega (arith, q)
+        ]
+
+    -- all before the digit, and what goes on by it, is before the next one
+    to_next : (q : List ℕ) → Before p g q → Before p (suc g) q
+    to_next q u = (u.0, (omega (arith, u.1.0), u.1.1))
+
+    key_to_next : (k : List ℕ) → BeforeKey K p g k → BeforeKey K p (suc g) k
+    key_to_next k u = (u.0, (omega (arith, u.1.0), u.1.1))
+
+    here_next : (q : List ℕ) → Under (p ++ (g ∷ [])) q → Before p (suc g) q
+    here_next q v = (g, (omega arith, v))
+
+    key_next : (k : List ℕ) → Led K (p ++ (g ∷ [])) k → BeforeKey K p (suc g) k
+    key_next k v = (g, (omega arith, v))
+
     -- a branch adds the settings and digits of its part
-    module _ (b : Branch) (W : Tables X Y) (B : Built K kb vb n h (p ++ (g ∷ [])) here share_here U G.notes (ks ++ R) (xs ++ E) b W) where
-      step :
-          (more : Map) (gs : List ℕ) (kid : ℕ → ℕ) → cond (one here) here [] ≡ more → cond (many here) (g ∷ []) [] ≡ gs
-          → ((x : ℕ) → x < g → kid x ≡ G.kid x)
-          → map (λ e. (B.notes.entry e).setting) (entry_of b) ≡ more → map (λ e. (B.notes.entry e).label) (entry_of b) ≡ (sum (entry_from n sources) more).entries
-          → node_of b ≡ map kid gs
-          → ((x : ℕ) → 0 < occ x gs → Stands W.nodes B.notes.node (kid x) (p ++ (x ∷ [])) (part_of (at_digit K (length p) m x) (share_at K n h p sources m x)))
-          → sum_by (λ x. (share_at K n h p sources m x).new_nodes) gs ≡ share_here.new_nodes
-          → (sum (entry_from n sources) more).new_entries + sum_by (λ x. (share_at K n h p sources m x).new_entries) gs ≡ share_here.new_entries
-          → Gathered K kb vb n h p sources m T N R E (suc g) (xs ++ entry_of b) (ks ++ node_of b) W
-      step more gs kid one_is many_is old settings labels kids stand cost entry_cost =
-          let mine : Map = picked one (λ q. q) (map (at_digit K (length p) m) (range_with_len 0 g)) in
-          let before : List ℕ = filter (λ x. many (at_digit K (length p) m x)) (range_with_len 0 g) in
-          subst (λ (a : Map). Hand K kb vb n h p sources m T N R E (Before p (suc g)) (BeforeKey K p (suc g)) a (filter (λ x. many (at_digit K (length p) m x)) (range_with_len 0 (suc g))) (xs ++ entry_of b) (ks ++ node_of b) W)
-          (sym (picked_more (at_digit K (length p) m) g ∙ ap (λ (r : Map). mine ++ r) one_is))
-          (subst (λ (a : List ℕ). Hand K kb vb n h p sources m T N R E (Before p (suc g)) (BeforeKey K p (suc g)) (mine ++ more) a (xs ++ entry_of b) (ks ++ node_of b) W)
-          (sym (filter_more (at_digit K (length p) m) g ∙ ap (λ (r : List ℕ). before ++ r) many_is))
-          (hand_more K kb vb n h p sources m T N R E (Before p g) (BeforeKey K p g) mine before xs ks U G
-          (Under (p ++ (g ∷ []))) (Led K (p ++ (g ∷ []))) (Before p (suc g)) (BeforeKey K p (suc g)) more gs (entry_of b) (node_of b) kid W B.notes B.grown
-          (λ q u. (u.0, (omega (arith, u.1.0), u.1.1))) (λ q v. (g, (omega arith, v))) (λ k u. (u.0, (omega (arith, u.1.0), u.1.1))) (λ k v. (g, (omega arith, v)))
-          (sits_same K kb vb W B.notes (node_of b ++ (ks ++ R)) ((ks ++ node_of b) ++ R) (entry_of b ++ (xs ++ E)) ((xs ++ entry_of b) ++ E) (λ i. to_end i (node_of b) ks R) (λ e. to_end e (entry_of b) xs E) B.sits)
-          (λ x q. old x (picked_below (λ x. many (at_digit K (length p) m x)) g x q))
-          settings labels kids stand (omega (arith, B.cost)) (omega (arith, B.entry_cost))))
+    step :
+        (W : Tables X Y) (more : Map) (gs xs' ks' : List ℕ) → cond (one here) here [] ≡ more
+        → cond (many here) (g ∷ []) [] ≡ gs
+        → Hand K kb vb n h p sources m T N R E (Before p (suc g)) (BeforeKey K p (suc g))
+        (mine ++ more) (before ++ gs) xs' ks' W
+        → Gathered K kb vb n h p sources m T N R E (suc g) xs' ks' W
+    step W more gs xs' ks' one_is many_is H =
+        hand_as K kb vb n h p sources m T N R E (Before p (suc g)) (BeforeKey K p (suc g))
+        (mine ++ more) (before ++ gs) xs' ks' W H _ _ _ _
+        (sym (picked_more (at_digit K (length p) m) g ∙ ap (λ (r : Map). mine ++ r) one_is))
+        (sym (filter_more (at_digit K (length p) m) g
+        ∙ ap (λ (r : List ℕ). before ++ r) many_is)) refl refl
 
     pub gathered_more :
         (b : Branch) (W : Tables X Y) → g < 16 → Built K kb vb n h (p ++ (g ∷ [])) here share_here U G.notes (ks ++ R) (xs ++ E) b W
@@ -120,35 +136,43 @@ module _ {X Y : Type 0} (K : KeyKind) (kb : X → List ℕ) (vb : Y → List ℕ
     gathered_more Nothing W small B =
         let none : here ≡ [] = ap (λ (a : Part). a.settings) B.is in
         let shared : share_here ≡ no_share = ap (portion K n h (p ++ (g ∷ [])) (map (below K p g) sources)) none in
-        step Nothing W B [] [] G.kid (ap (λ (a : Map). cond (one a) a []) none) (ap (λ (a : Map). cond (many a) (g ∷ []) []) none) (λ x q. refl)
-        refl refl refl (λ x q. absurd (omega (arith, occ_nil x)))
-        (sym (ap (λ (a : Shared). a.new_nodes) shared)) (sym (ap (λ (a : Shared). a.new_entries) shared))
+        step W [] [] (xs ++ []) (ks ++ []) (ap (λ (a : Map). cond (one a) a []) none)
+        (ap (λ (a : Map). cond (many a) (g ∷ []) []) none)
+        (hand_same K kb vb n h p sources m T N R E (Before p g) (BeforeKey K p g) mine before xs ks
+        U G _ _ _ _ W B.notes B.grown to_next here_next key_to_next key_next B.sits
+        (omega (arith, B.cost, ap (λ (a : Shared). a.new_nodes) shared))
+        (omega (arith, B.entry_cost, ap (λ (a : Shared). a.new_entries) shared)))
     gathered_more (Entry e) W small B =
         let s : Setting = (B.notes.entry e.0).setting in
         let alone : here ≡ s ∷ [] = B.is.1.settings in
         let shared : share_here ≡ entry_from n sources s =
         ap (portion K n h (p ++ (g ∷ [])) (map (below K p g) sources)) alone ∙ portion_one K n h (p ++ (g ∷ [])) (map (below K p g) sources) s B.is.0
         ∙ entry_below K n p g s (digit_is K (length p) g m s alone) sources in
-        step (Entry e) W B (s ∷ []) [] G.kid (ap (λ (a : Map). cond (one a) a []) alone) (ap (λ (a : Map). cond (many a) (g ∷ []) []) alone) (λ x q. refl)
-        refl (sym B.is.1.entries ∙ ap (λ (a : Shared). a.entries) shared ∙ sym (append-nil (entry_from n sources s).entries)) refl (λ x q. absurd (omega (arith, occ_nil x)))
-        (sym (ap (λ (a : Shared). a.new_nodes) shared ∙ (entry_nodes n sources s).1)) (omega (arith, ap (λ (a : Shared). a.new_entries) shared))
+        step W (s ∷ []) [] (xs ++ (e.0 ∷ [])) (ks ++ []) (ap (λ (a : Map). cond (one a) a []) alone)
+        (ap (λ (a : Map). cond (many a) (g ∷ []) []) alone)
+        (hand_entry K kb vb n h p sources m T N R E (Before p g) (BeforeKey K p g) mine before xs ks
+        U G _ _ _ _ W B.notes B.grown to_next here_next key_to_next key_next s e.0 B.sits
+        refl (sym B.is.1.entries ∙ ap (λ (a : Shared). a.entries) shared)
+        (omega (
+          arith,
+          B.cost,
+          ap (λ (a : Shared). a.new_nodes) shared,
+          (entry_nodes n sources s).1,
+        ))
+        (omega (arith, B.entry_cost, ap (λ (a : Shared). a.new_entries) shared)))
     gathered_more (Child i) W small B =
         let several : 1 < length here = bushy_many h here (omega arith) B.is.1 in
         let shared : share_here ≡ share_at K n h p sources m g = portion_bushy K n h (p ++ (g ∷ [])) (map (below K p g) sources) here B.is.1 in
-        let kid : ℕ → ℕ = λ x. cond (eqb x g) i.0 (G.kid x) in
-        let new_kid : (x : ℕ) → x ≡ g → kid x ≡ i.0 = λ x z. cond-true (eqb x g) i.0 (G.kid x) (eq-eqb x g z) in
-        let Q : ℕ → ℕ → Type 0 = λ c x. Stands W.nodes B.notes.node c (p ++ (x ∷ [])) (part_of (at_digit K (length p) m x) (share_at K n h p sources m x)) in
-        step (Child i) W B [] (g ∷ []) kid
-        (cond-false (one here) here [] (ne_eqb (length here) 1 (λ z. omega (arith, several, z)))) (cond-true (many here) (g ∷ []) [] (lt-ltb 1 (length here) several))
-        (λ x q. cond-false (eqb x g) i.0 (G.kid x) (ne_eqb x g (λ z. omega (arith, q, z))))
-        refl refl (ap (λ (y : ℕ). y ∷ []) (sym (new_kid g refl)))
-        (λ x q. elim (cases_eq x g) [
-          | inl z ↦ subst (λ (c : ℕ). Q c x) (sym (new_kid x z)) (subst (Q i.0) (sym z)
-              (subst (λ (a : Shared). Stands W.nodes B.notes.node i.0 (p ++ (g ∷ [])) (part_of here a)) shared B.is.0))
-          | inr z ↦ absurd (omega (arith, q, occ_cons x g [], hit_other x g z, occ_nil x))
-        ])
-        (omega (arith, sum_by-cons (λ x. (share_at K n h p sources m x).new_nodes) g [], ap (λ (a : Shared). a.new_nodes) shared))
-        (omega (arith, sum_by-cons (λ x. (share_at K n h p sources m x).new_entries) g [], ap (λ (a : Shared). a.new_entries) shared))
+        step W [] (g ∷ []) (xs ++ []) (ks ++ (i.0 ∷ []))
+        (cond-false (one here) here []
+        (ne_eqb (length here) 1 (λ z. omega (arith, several, z))))
+        (cond-true (many here) (g ∷ []) [] (lt-ltb 1 (length here) several))
+        (hand_child K kb vb n h p sources m T N R E (Before p g) (BeforeKey K p g) mine before xs ks
+        U G _ _ _ _ W B.notes B.grown to_next here_next key_to_next key_next g i.0 not_yet
+        B.sits
+        (subst (λ (a : Shared). Stands W.nodes B.notes.node i.0 (p ++ (g ∷ [])) (part_of here a))
+        shared B.is.0) (omega (arith, B.cost, ap (λ (a : Shared). a.new_nodes) shared))
+        (omega (arith, B.entry_cost, ap (λ (a : Shared). a.new_entries) shared)))
 
   -- ---- the sixteen
 

@@ -1,11 +1,11 @@
 -- A hand: empty, with more in it, and as a new node. Assumes nothing.
 use Rattle.std.proofs.Common.{◌≡◌, ℕ, ◌+◌, ◌<◌, true, List, [], ◌∷◌, ◌++◌, map, length, sum_by, sym, refl, ap, ◌∙◌, subst, ap₂, inl, inr, arith}
 use Rattle.std.specs.List.{flat_map}
-use Rattle.std.proofs.lemmas.List.{map-append}
-use Rattle.std.proofs.lemmas.List.Sums.{sum_by-append}
-use Rattle.std.proofs.lemmas.Bool.{cases_lt}
+use Rattle.std.proofs.lemmas.List.{map-append, append-nil}
+use Rattle.std.proofs.lemmas.List.Sums.{sum_by-append, sum_by-cons}
+use Rattle.std.proofs.lemmas.Bool.{cases_lt, cases_eq}
 use Rattle.kinds.specs.Kinds.{KeyKind}
-use Rattle.model.specs.Maps.{Map}
+use Rattle.model.specs.Maps.{Setting, Map}
 use Rattle.model.specs.Tries.{at_digit, one, many, parts}
 use Rattle.model.specs.Images.{bits}
 use Rattle.model.specs.Sharing.{Marked, Part, begins, Shared, ◌⊕◌, new_node, entry_from, sum}
@@ -15,17 +15,30 @@ use Rattle.tables.specs.declared.cells.NodeId.{NodeId}
 use Rattle.tables.specs.Chains.{occ}
 use Rattle.tables.specs.Cells.{cell, entry_cell, kids, singles}
 use Rattle.tables.specs.Heaps.{NodeMade}
-use Rattle.tables.specs.Notes.{Note, EntryNote, branches, own, Fits, Stands}
-use Rattle.tables.proofs.Occurrences.{occ_nil, occ_append}
+use Rattle.tables.specs.Notes.{Note, EntryNote, branches, own, Fits, Stands, noted}
+use Rattle.tables.proofs.Occurrences.{hit_other, occ_nil, occ_cons, occ_append}
 use Rattle.tables.proofs.Rows.{map_same, joined_same}
-use Rattle.tables.proofs.Noting.{noted_same, new_stands}
+use Rattle.tables.proofs.Noting.{noted_same, noted_other, new_stands}
 use Rattle.plans.specs.Plans.{bushy}
 use Rattle.branches.specs.declared.branch.Branch.TheVariants.{Child}
 use Rattle.branches.specs.States.{Tables, Notes, Sits, Grown, Clear, Under, Led}
 use Rattle.branches.specs.Branches.{part_of, Built}
 use Rattle.branches.specs.Hands.{share_at, Hand}
-use Rattle.branches.proofs.Growing.{grown_none, grown_then, clear_grown, clear_to, stands_grown, EntriesStay, with_node, node_made_grown, node_made_sits}
+use Rattle.branches.proofs.Growing.{grown_none, grown_then, clear_grown, clear_to, stands_grown, sits_same, EntriesStay, with_node, node_made_grown, node_made_sits}
 use Rattle.branches.proofs.Picks.{sum_nodes, sum_entries, sum_new, sum_new_entries, sum_append, entries_nodes}
+
+-- what comes to a row's head comes to its end
+to_end : (i x : ℕ) (xs ys : List ℕ) → occ i (x ∷ (xs ++ ys)) ≡ occ i ((xs ++ (x ∷ [])) ++ ys)
+to_end i x xs ys =
+    omega (
+      arith,
+      occ_cons i x (xs ++ ys),
+      occ_append i xs ys,
+      occ_append i (xs ++ (x ∷ [])) ys,
+      occ_append i xs (x ∷ []),
+      occ_cons i x [],
+      occ_nil i,
+    )
 
 module _ {X Y : Type 0} (K : KeyKind) (kb : X → List ℕ) (vb : Y → List ℕ) (n h : ℕ) (p : List ℕ) (sources : List Part) (m : Map)
     (T : Tables X Y) (N : Notes) (R E : List ℕ) where
@@ -86,6 +99,81 @@ module _ {X Y : Type 0} (K : KeyKind) (kb : X → List ℕ) (vb : Y → List ℕ
             cost = omega (arith, cost, G.cost, sum_by-append (λ g. (share_at K n h p sources m g).new_nodes) gs gs');
             entry_cost = omega (arith, entry_cost, G.entry_cost, sum_by-append (λ g. (share_at K n h p sources m g).new_entries) gs gs', (sum_append (entry_from n sources) mine more).1);
           }
+
+    module _ (P' Q' V W : List ℕ → Type 0) (S : Tables X Y) (M : Notes)
+        (grown : Grown n P' Q' U G.notes S M)
+        (v : (q : List ℕ) → P q → V q) (v' : (q : List ℕ) → P' q → V q)
+        (w : (k : List ℕ) → Q k → W k) (w' : (k : List ℕ) → Q' k → W k) where
+      -- nothing more
+      pub hand_same : Sits K kb vb S M (ks ++ R) (xs ++ E) → S.spare ≡ U.spare
+          → S.entry_spare ≡ U.entry_spare
+          → Hand K kb vb n h p sources m T N R E V W (mine ++ []) (gs ++ []) (xs ++ []) (ks ++ []) S
+      hand_same sits cost entry_cost =
+          hand_more P' Q' V W [] [] [] [] G.kid S M grown v v' w w'
+          (sits_same K kb vb S M (ks ++ R) ((ks ++ []) ++ R) (xs ++ E) ((xs ++ []) ++ E)
+          (λ i. ap (λ (l : List ℕ). occ i (l ++ R)) (sym (append-nil ks)))
+          (λ e. ap (λ (l : List ℕ). occ e (l ++ E)) (sym (append-nil xs))) sits)
+          (λ g q. refl) refl refl refl (λ g q. absurd (omega (arith, occ_nil g)))
+          (omega (arith, cost)) (omega (arith, entry_cost))
+
+      -- one entry more
+      pub hand_entry :
+          (s : Setting) (e : ℕ) → Sits K kb vb S M (ks ++ R) (e ∷ (xs ++ E))
+          → (M.entry e).setting ≡ s → (M.entry e).label ∷ [] ≡ (entry_from n sources s).entries
+          → S.spare ≡ U.spare → S.entry_spare + (entry_from n sources s).new_entries ≡ U.entry_spare
+          → Hand K kb vb n h p sources m T N R E V W (mine ++ (s ∷ [])) (gs ++ []) (xs ++ (e ∷ []))
+          (ks ++ []) S
+      hand_entry s e sits setting label cost entry_cost =
+          hand_more P' Q' V W (s ∷ []) [] (e ∷ []) [] G.kid S M grown v v' w w'
+          (sits_same K kb vb S M (ks ++ R) ((ks ++ []) ++ R) (e ∷ (xs ++ E)) ((xs ++ (e ∷ [])) ++ E)
+          (λ i. ap (λ (l : List ℕ). occ i (l ++ R)) (sym (append-nil ks)))
+          (λ i. to_end i e xs E) sits)
+          (λ g q. refl) (ap (λ (x : Setting). x ∷ []) setting)
+          (label ∙ sym (append-nil (entry_from n sources s).entries)) refl
+          (λ g q. absurd (omega (arith, occ_nil g)))
+          (omega (arith, cost)) (omega (arith, entry_cost))
+
+      -- one child more, at a digit that has none yet
+      pub hand_child :
+          (g i : ℕ) → occ g gs ≡ 0 → Sits K kb vb S M (i ∷ (ks ++ R)) (xs ++ E)
+          → Stands S.nodes M.node i (p ++ (g ∷ []))
+          (part_of (at_digit K (length p) m g) (share_at K n h p sources m g))
+          → S.spare + (share_at K n h p sources m g).new_nodes ≡ U.spare
+          → S.entry_spare + (share_at K n h p sources m g).new_entries ≡ U.entry_spare
+          → Hand K kb vb n h p sources m T N R E V W (mine ++ []) (gs ++ (g ∷ [])) (xs ++ [])
+          (ks ++ (i ∷ [])) S
+      hand_child g i none sits stands cost entry_cost =
+          let kid : ℕ → ℕ = noted G.kid g i in
+          let Q : ℕ → ℕ → Type 0 =
+          λ c x. Stands S.nodes M.node c (p ++ (x ∷ []))
+          (part_of (at_digit K (length p) m x) (share_at K n h p sources m x)) in
+          hand_more P' Q' V W [] (g ∷ []) [] (i ∷ []) kid S M grown v v' w w'
+          (sits_same K kb vb S M (i ∷ (ks ++ R)) ((ks ++ (i ∷ [])) ++ R) (xs ++ E) ((xs ++ []) ++ E)
+          (λ j. to_end j i ks R)
+          (λ e. ap (λ (l : List ℕ). occ e (l ++ E)) (sym (append-nil xs))) sits)
+          (λ x q. noted_other G.kid g i x (λ z. omega (arith, none, q, ap (λ (y : ℕ). occ y gs) z)))
+          refl refl (ap (λ (c : ℕ). c ∷ []) (sym (noted_same G.kid g i)))
+          (λ x q. elim (cases_eq x g) [
+            | inl z ↦
+                subst (Q (kid x)) (sym z)
+                (subst (λ (c : ℕ). Q c g) (sym (ap kid z ∙ noted_same G.kid g i)) stands)
+            | inr z ↦ absurd (omega (arith, q, occ_cons x g [], hit_other x g z, occ_nil x))
+          ])
+          (omega (arith, cost, sum_by-cons (λ x. (share_at K n h p sources m x).new_nodes) g []))
+          (omega (
+            arith,
+            entry_cost,
+            sum_by-cons (λ x. (share_at K n h p sources m x).new_entries) g [],
+          ))
+
+    -- the same lists
+    pub hand_as : (mine' : Map) (gs' xs' ks' : List ℕ) → mine ≡ mine' → gs ≡ gs' → xs ≡ xs'
+        → ks ≡ ks' → Hand K kb vb n h p sources m T N R E P Q mine' gs' xs' ks' U
+    hand_as mine' gs' xs' ks' a b c d =
+        subst (λ (l : Map). Hand K kb vb n h p sources m T N R E P Q l gs' xs' ks' U) a
+        (subst (λ (l : List ℕ). Hand K kb vb n h p sources m T N R E P Q mine l xs' ks' U) b
+        (subst (λ (l : List ℕ). Hand K kb vb n h p sources m T N R E P Q mine gs l ks' U) c
+        (subst (λ (l : List ℕ). Hand K kb vb n h p sources m T N R E P Q mine gs xs l U) d G)))
 
     -- the node over all that is in hand
     module _ (inside : (q : List ℕ) → P q → Under p q) (apart : (q : List ℕ) → P q → q ≡ p → ⊥) (inside_keys : (k : List ℕ) → Q k → Led K p k) (clear : Clear n (Under p) (Led K p) T N)

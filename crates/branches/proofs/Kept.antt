@@ -18,7 +18,7 @@ use Rattle.branches.specs.declared.branch.Branch.{Branch}
 use Rattle.branches.specs.declared.branch.Branch.TheVariants.{Nothing, Entry, Child}
 use Rattle.branches.specs.States.{Tables, Notes, Sits, Grown, Under, Led}
 use Rattle.branches.specs.Branches.{part_of, Is, node_of, entry_of, Built, Kept}
-use Rattle.branches.proofs.Growing.{grown_none, is_grown, EntriesStay, NodesStay, node_held_grown, node_held_sits, entry_held_grown, entry_held_sits}
+use Rattle.branches.proofs.Growing.{is_grown, EntriesStay, NodesStay, node_held_grown, node_held_sits, entry_held_grown, entry_held_sits}
 use Rattle.branches.proofs.Settings.{entry_old, old_entry}
 
 module _ {X Y : Type 0} (K : KeyKind) (kb : X → List ℕ) (vb : Y → List ℕ) where
@@ -34,11 +34,6 @@ module _ {X Y : Type 0} (K : KeyKind) (kb : X → List ℕ) (vb : Y → List ℕ
     is = subst (Is U N b level p) (sym e) (is_grown n (Under p) (Led K p) T U N N G b level p a is);
     cost = omega arith;
     entry_cost = omega arith;
-  }
-
-  pub kept_nothing : (T : Tables X Y) → Kept K kb vb T Nothing T
-  kept_nothing T = record {
-    built = λ n level p N R E a m s H is e u v. built_of n level p m s T N R E Nothing T a H (grown_none n (Under p) (Led K p) T N) is e refl refl u v;
   }
 
   held_entry :

@@ -5,6 +5,8 @@ pub mod Picks
 pub mod Hands
 pub mod Gathering
 pub mod Rows
+pub mod Seats
+pub mod Filling
 pub mod Bundles
 pub mod Filters
 pub mod Under

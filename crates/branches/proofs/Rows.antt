@@ -1,5 +1,5 @@
 -- A node at the deepest level: its settings in hand as a row of entries. Assumes nothing.
-use Rattle.std.proofs.Common.{◌≡◌, ℕ, ◌+◌, ◌<◌, ltb, List, [], ◌∷◌, ◌++◌, length, None, sym, refl, ap, ◌∙◌, ap₂, arith}
+use Rattle.std.proofs.Common.{◌≡◌, ℕ, ◌+◌, ◌<◌, ltb, List, [], ◌∷◌, ◌++◌, length, None, sym, ap, ◌∙◌, ap₂, arith}
 use Rattle.std.proofs.lemmas.List.{append-nil}
 use Rattle.std.proofs.lemmas.Bool.{cond-false, lt-ltb, le-ltb}
 use Rattle.kinds.specs.Kinds.{KeyKind}
@@ -9,17 +9,16 @@ use Rattle.tables.specs.declared.cells.NodeCell.{NodeCell}
 use Rattle.tables.specs.declared.cells.NodeId.{NodeId}
 use Rattle.tables.specs.Cells.{kids, singles}
 use Rattle.tables.specs.Heaps.{NodeMade}
-use Rattle.tables.proofs.Occurrences.{occ_nil, occ_cons, occ_append}
 use Rattle.plans.proofs.Sharing.{share_new_leaf}
 use Rattle.branches.specs.declared.branch.Branch.TheVariants.{Child}
 use Rattle.branches.specs.States.{Tables, Notes, Sits, Grown, Clear, Under, Led}
 use Rattle.branches.specs.Branches.{Built}
 use Rattle.branches.specs.Hands.{Hand}
-use Rattle.branches.proofs.Growing.{sits_same, EntriesStay}
-use Rattle.branches.proofs.Hands.{hand_more, hand_node}
+use Rattle.branches.proofs.Growing.{EntriesStay}
+use Rattle.branches.proofs.Hands.{hand_entry, hand_node}
 
 -- nothing more is shared
-plus_none : (a : Shared) → a ≡ a ⊕ no_share
+pub plus_none : (a : Shared) → a ≡ a ⊕ no_share
 plus_none a =
     let some : List Marked → List Marked → ℕ → ℕ → Shared = λ x y k l. record { nodes = x; entries = y; new_nodes = k; new_entries = l } in
     let k : a.new_nodes ≡ a.new_nodes + 0 = omega arith in
@@ -38,12 +37,9 @@ module _ {X Y : Type 0} (K : KeyKind) (kb : X → List ℕ) (vb : Y → List ℕ
       → (M.entry e).setting ≡ s → (M.entry e).label ∷ [] ≡ (entry_from n sources s).entries
       → W.spare ≡ U.spare → W.entry_spare + (entry_from n sources s).new_entries ≡ U.entry_spare
       → Hand K kb vb n h p sources m T N R E V V' (mine ++ (s ∷ [])) [] (xs ++ (e ∷ [])) [] W
-  row_more mine xs U G P' Q' V V' s e W M grown v v' w w' sits setting label cost entry_cost =
-      hand_more K kb vb n h p sources m T N R E P Q mine [] xs [] U G P' Q' V V' (s ∷ []) [] (e ∷ []) [] G.kid W M grown v v' w w'
-      (sits_same K kb vb W M R R (e ∷ (xs ++ E)) ((xs ++ (e ∷ [])) ++ E) (λ i. refl)
-      (λ i. omega (arith, occ_cons i e (xs ++ E), occ_append i xs E, occ_append i (xs ++ (e ∷ [])) E, occ_append i xs (e ∷ []), occ_cons i e [], occ_nil i)) sits)
-      (λ g q. refl) (ap (λ (x : Setting). x ∷ []) setting) (label ∙ sym (append-nil (entry_from n sources s).entries)) refl (λ g q. absurd (omega (arith, occ_nil g)))
-      (omega (arith, cost)) (omega (arith, entry_cost))
+  row_more mine xs U G P' Q' V V' s e W M grown v v' w w' =
+      hand_entry K kb vb n h p sources m T N R E P Q mine [] xs [] U G P' Q' V V' W M grown v v' w
+      w' s e
 
   -- the node over the row
   pub row_node :

@@ -1,5 +1,5 @@
 -- One key of a map in rising order is set or cleared, and the entries of its settings. Assumes nothing.
-use Rattle.std.proofs.Common.{◌≡◌, ℕ, zero, suc, ◌+◌, ◌<◌, Bool, true, false, cond, List, [], ◌∷◌, ◌++◌, map, length, get_or, Some, None, Option, sym, refl, ap, ◌∙◌, subst, ap₂, inl, inr, arith, length-append}
+use Rattle.std.proofs.Common.{◌≡◌, ℕ, ◌+◌, Bool, true, false, cond, List, [], ◌∷◌, ◌++◌, map, length, Some, None, Option, sym, refl, ap, ◌∙◌, subst, ap₂, inl, inr, arith, length-append}
 use mathlib.Core.List.Memᴰ
 use Rattle.std.specs.List.{AllByRecursion}
 use Rattle.std.proofs.lemmas.Bool.{cond-true, cond-false}
@@ -180,11 +180,6 @@ entry_else n a rest s other =
 pub entry_new : (n : ℕ) (a : Part) (s : Setting) → (look a.settings s.key ≡ Some s.value → ⊥) → entry_from n (a ∷ []) s ≡ new_entry n s
 entry_new n a s other = entry_else n a [] s other
 
-pub mem_at : {A : Type 0} (xs : List A) (j : ℕ) (d : A) → j < length xs → Mem (get_or xs j d) xs
-mem_at [] j d h = absurd (omega arith)
-mem_at (x ∷ xs) zero d h = Memᴰ.head refl
-mem_at (x ∷ xs) (suc j) d h = Memᴰ.tail (mem_at xs j d (omega arith))
-
 -- ---- entries in a row: their marks are those of the source whose entries they are
 
 module _ {X : Type 0} (K : KeyKind) (label : X → Marked) (setting : X → Setting) where
@@ -206,9 +201,6 @@ module _ {X : Type 0} (K : KeyKind) (label : X → Marked) (setting : X → Sett
             let k = l.0 in
             grind (arith, same_tells)
       ]
-
-  pub mark_at : (xs : List X) → Labelled xs → Rises K (map setting xs) → (j : ℕ) (d : X) → j < length xs → mark_of (map label xs) (setting (get_or xs j d)).key ≡ (label (get_or xs j d)).mark
-  mark_at xs l r j d h = mark_mem xs l r (get_or xs j d) (mem_at xs j d h)
 
   -- some of the entries of a source, as entries of a new node
   module _ (n : ℕ) (a : Part) (rest : List Part) (xs : List X) (labels : map label xs ≡ a.entries) (settings : map setting xs ≡ a.settings) (l : Labelled xs) (rises : Rises K a.settings) where

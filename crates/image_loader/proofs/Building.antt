@@ -1,302 +1,352 @@
--- A node above the deepest level built from an image, digit by digit. Assumes nothing.
-use Rattle.std.proofs.Common.{◌≡◌, ℕ, suc, ◌+◌, ◌-◌, ◌*◌, ◌^◌, ◌<◌, ◌≤◌, Bool, true, false, eqb, List, [], ◌∷◌, ◌++◌, length, sym, refl, ap, ◌∙◌, subst, arith}
+-- A node of an image built: its entries one after another, and then its children. Assumes nothing.
+use Rattle.std.proofs.Common.{◌≡◌, ℕ, ◌+◌, ◌-◌, ◌<◌, ◌≤◌, List, [], ◌∷◌, ◌++◌, length, take, set, sym, refl, ap, ◌∙◌, subst, ap₂, append_assoc, arith, length-set}
 use lib.Count.{ones}
-use Rattle.std.specs.List.{slice_range, AllByRecursion}
-use Rattle.std.proofs.lemmas.List.{length_push}
-use Rattle.std.proofs.lemmas.Bool.{and_from}
+use mathlib.Core.List.Memᴰ
+use Rattle.std.proofs.lemmas.List.{take_more_set, length-take-le}
+use Rattle.std.proofs.lemmas.List.Sums.{sum_by-cons}
 use Rattle.kinds.specs.Kinds.{KeyKind, ValueKind}
-use Rattle.model.specs.Maps.{Setting, Map, Sound}
-use Rattle.model.specs.Tries.{digit, leads, at_digit, parts, one, many}
-use Rattle.model.specs.Images.{bits, node}
-use Rattle.model.specs.Sharing.{Shared, entry_from}
-use Rattle.model.proofs.Images.Lists.{all_both, all_filter, filter_passes}
-use Rattle.model.proofs.Images.Gets.{leads_push}
+use Rattle.model.specs.Maps.{Setting, Map, Readable}
+use Rattle.model.specs.Images.{entry}
+use Rattle.model.specs.Sharing.{Shared}
+use Rattle.model.proofs.Images.Lists.{flat}
+use Rattle.model.proofs.Marks.Members.{all_mem}
+use Rattle.model.proofs.Marks.Prefixes.{led_on}
+use Rattle.tables.specs.declared.both.Tables.{Tables as Lent}
 use Rattle.tables.specs.declared.cells.NodeCell.{NodeCell}
-use Rattle.tables.specs.declared.cells.EntryId.{EntryId}
-use Rattle.tables.specs.Slots.{bit}
-use Rattle.plans.specs.Plans.{crowd, portion}
-use Rattle.plans.proofs.Sharing.{portion_one}
-use Rattle.plans.proofs.Crowds.{crowd_at}
-use Rattle.branches.specs.declared.branch.Branch.{Branch}
-use Rattle.branches.specs.declared.branch.Branch.TheVariants.{Nothing, Entry}
-use Rattle.branches.specs.States.{Tables, Notes, Clear, Under, Led}
-use Rattle.branches.specs.Branches.{Built}
-use Rattle.branches.specs.Handfuls.{nothing_in_hand, with_branch, Assembling, Assembled}
-use Rattle.branches.proofs.Growing.{grown_none, EntriesStay, NodesStay}
-use Rattle.branches.proofs.Gathering.{gathered_clear}
-use Rattle.branches.proofs.Goes.{many_bushy}
-use Rattle.branches.proofs.Made.{entry_built}
-use Rattle.branches.proofs.Turning.{Turned, turned_none, turned_more, bits_left, node_room, entry_room, turned_assembles, turned_assembled}
-use Rattle.image_loader.specs.Rows.{Here, EntryAt, Making, MadeOf}
-use Rattle.image_loader.specs.Loads.{MayBuild, NodeBuilt}
-use Rattle.image_loader.proofs.Rows.{here_fits}
-use Rattle.image_loader.proofs.Operands.{size, entry_inside}
-use Rattle.image_loader.proofs.Layouts.{bit_of, falls, falls_sound, singles_from, maps_inside, maps_are, datamap_is, nodemap_is, kids_begin, node_long, Singles, Kids, singles_none, kids_none, single_at, single_is, singles_more, singles_same, kids_same, kid_here, kids_more, kids_end, one_not_many}
-use Rattle.image_loader.proofs.Tallying.{no_settings}
-use Rattle.image_loader.proofs.Tallies.{HasMaps}
+use Rattle.tables.specs.declared.cells.NodeId.{NodeId}
+use Rattle.tables.specs.declared.cells.EntryCell.{EntryCell}
+use Rattle.tables.specs.declared.table.Table.{Table}
+use Rattle.tables.specs.Chains.{occ}
+use Rattle.tables.specs.Cells.{cell, kids, singles}
+use Rattle.tables.specs.Heaps.{Nodes, NodeMade}
+use Rattle.tables.specs.Notes.{branches, own}
+use Rattle.tables.proofs.Listed.{listed_take}
+use Rattle.tables.proofs.Occurrences.{occ_head}
+use Rattle.branches.specs.Handfuls.{nothing_in_hand, node_cell}
+use Rattle.branches.specs.States.{Tables, tables_of}
+use Rattle.branches.proofs.Filters.{none_long}
+use Rattle.branches.proofs.Filling.{NewNode, share, Filled, filled_none, own_many, branches_many, left_own, left_branch, entries_fit, nodes_fit, filled_entry, filled_clear, filled_child, filled_lower, filled_node}
+use Rattle.branches.proofs.Growing.{EntriesStay}
+use Rattle.image_reader.specs.Cursors.{Cursor}
+use Rattle.image_loader.specs.Ahead.{Ahead, EntryAhead, NodeAhead}
+use Rattle.image_loader.specs.Loads.{MayMake, EntryRead, MayBuild, NodeBuilt}
+use Rattle.image_loader.proofs.Nodes.{HasMaps, seat_of, next, own_reads, child_tall, child_shares, child_ahead, uncons}
 
-module _ {X Y : Type 0} (K : KeyKind) (V : ValueKind) (kb : X → List ℕ) (vb : Y → List ℕ) (T : Tables X Y) (bs : List ℕ) (at h : ℕ) (q : MayBuild K V kb vb T bs at (suc h)) where
-  abbrev n : ℕ
-  n = q.call
+-- a node with one slot filled
+abbrev pub with_entry : NodeCell → ℕ → ℕ → NodeCell
+with_entry c i e = record {
+  datamap = c.datamap;
+  nodemap = c.nodemap;
+  entries = set c.entries i e;
+  children = c.children;
+  holders = c.holders;
+  next = c.next;
+  level = c.level;
+}
 
-  abbrev p : List ℕ
-  p = q.prefix
+abbrev pub with_child : NodeCell → ℕ → ℕ → NodeCell
+with_child c j k = record {
+  datamap = c.datamap;
+  nodemap = c.nodemap;
+  entries = c.entries;
+  children = set c.children j k;
+  holders = c.holders;
+  next = c.next;
+  level = c.level;
+}
 
-  abbrev m : Map
-  m = q.part
-
-  low : h < 8
-  low = omega (arith, q.deep)
-
-  abbrev part_at : ℕ → Map
-  part_at g = at_digit K (length p) m g
-
-  -- the digits before one are in hand, and the rest stands in the image
-  pub record Midst (g : ℕ) (hand : NodeCell) (single child : ℕ) (U : Tables X Y) : Type 0 where
-    pub turned : Turned K kb vb n h p [] m T q.notes q.roots q.in_hand g hand U
-    pub singles : Singles K V bs h m q.sound at q.here g single
-    pub kids : Kids K V bs h m q.sound at q.here g child
-
-  falls_is : (g : ℕ) → falls K V bs h m q.sound g ≡ part_at g
-  falls_is g = ap (λ (d : ℕ). at_digit K d m g) (let z : 7 - h ≡ length p = omega (arith, q.deep) in z)
-
-  pub midst_none : (child : ℕ) → Kids K V bs h m q.sound at q.here 0 child → Midst 0 nothing_in_hand (at + 5) child T
-  midst_none child k = record {
-    turned = turned_none K kb vb n h p [] m T q.notes q.roots q.in_hand q.deep q.sits;
-    singles = singles_none K V bs h m q.sound at q.here;
-    kids = k;
+module _ {X Y : Type 0} {K : KeyKind} {V : ValueKind} {kb : X → List ℕ} {vb : Y → List ℕ}
+    {T : Tables X Y} {r : Cursor} {height : ℕ} (q : MayBuild K V kb vb T r height) where
+  -- the node that is to be built
+  abbrev pub new_of : NewNode K kb vb
+  new_of = record {
+    call = q.call;
+    height = height;
+    prefix = q.node.prefix;
+    part = q.node.part;
+    tables = T;
+    notes = q.notes;
+    roots = q.roots;
+    in_hand = q.in_hand;
+    deep = q.node.deep;
+    several = q.node.several;
+    rises = q.node.sound.rises;
+    led = q.led;
+    clear = q.clear;
   }
 
-  -- the keys that go on by a digit
-  led_on : (g : ℕ) → AllByRecursion (λ s. Led K (p ++ (g ∷ [])) s.key) (part_at g)
-  led_on g =
-      all_both (λ s. Led K p s.key) (λ s. eqb (digit (K.hash s.key) (length p)) g ≡ true) (λ s. Led K (p ++ (g ∷ [])) s.key)
-      (λ s a b. leads_push K 0 p g s.key ∙ and_from (leads K 0 p s.key) (eqb (digit (K.hash s.key) (0 + length p)) g) a (ap (λ (d : ℕ). eqb (digit (K.hash s.key) d) g) (let z : 0 + length p ≡ length p = omega arith in z) ∙ b))
-      (part_at g) (all_filter (λ s. Led K p s.key) (λ s. eqb (digit (K.hash s.key) (length p)) g) m q.led) (filter_passes (λ s. eqb (digit (K.hash s.key) (length p)) g) m)
+  -- a node has the maps d and n, which are those of the part, and its height
+  pub record Headed (d n datamap nodemap level : ℕ) : Type 0 where
+    pub data_is : datamap ≡ d
+    pub nodes_is : nodemap ≡ n
+    pub level_is : level ≡ height
+    pub maps : HasMaps K (seat_of q.node) d n
 
-  module _ (g : ℕ) (small : g < 16) (hand : NodeCell) (single child : ℕ) (U : Tables X Y) (I : Midst g hand single child U) where
-    abbrev N : Notes
-    N = I.turned.gathered.notes
+  -- all but the settings left and the digits gs is in hand, in the first slots of a node
+  abbrev pub InSlots : ℕ → ℕ → NodeCell → Tables X Y → Map → List ℕ → Type 0
+  InSlots i j node U left gs =
+      Filled new_of left gs (take i node.entries) (take j node.children) U
 
-    abbrev R : List ℕ
-    R = I.turned.ks ++ q.roots
+  -- so many entries and children are, and the others are next
+  pub record PartlyBuilt (d n i j : ℕ) (node : NodeCell) (s : Cursor) (U : Tables X Y) : Type 0
+    where
+      pub left : Map
+      pub gs : List ℕ
+      pub filled : InSlots i j node U left gs
+      pub few : (i ≤ 16) × (j ≤ 16)
+      pub slots : (length node.entries ≡ 16) × (length node.children ≡ 16)
+      pub head : Headed d n node.datamap node.nodemap node.level
+      pub ahead : Ahead s (next q.node left gs)
 
-    abbrev E : List ℕ
-    E = I.turned.xs ++ q.in_hand
+-- whichever part it is
+pub record Building {X Y : Type 0} (K : KeyKind) (V : ValueKind) (kb : X → List ℕ)
+    (vb : Y → List ℕ) (T : Tables X Y) (r : Cursor) (height d n i j : ℕ)
+    (node : NodeCell) (s : Cursor) (U : Tables X Y) : Type 0 where
+  pub so_far : (q : MayBuild K V kb vb T r height) → PartlyBuilt q d n i j node s U
 
-    clear_on : Clear n (Under (p ++ (g ∷ []))) (Led K (p ++ (g ∷ []))) U N
-    clear_on = gathered_clear K kb vb n h p [] m T q.notes q.roots q.in_hand q.deep g I.turned.xs I.turned.ks U I.turned.gathered q.clear
+module _ {X Y : Type 0} {K : KeyKind} {V : ValueKind} {kb : X → List ℕ} {vb : Y → List ℕ}
+    {T : Tables X Y} {r : Cursor} {height : ℕ} where
+  pub building_none : {d n : ℕ} {s : Cursor}
+      → ((q : NodeAhead K V r height) → HasMaps K (seat_of q) d n
+      × Ahead s (next q (own K (seat_of q)) (branches K (seat_of q))))
+      → (blank : NodeCell) → blank ≡ nothing_in_hand
+      → Building K V kb vb T r height d n 0 0 (record {
+        datamap = d;
+        nodemap = n;
+        entries = blank.entries;
+        children = blank.children;
+        holders = blank.holders;
+        next = blank.next;
+        level = height;
+      }) s T
+  building_none H blank is = record {
+    so_far = λ q. record {
+      left = own K (seat_of q.node);
+      gs = branches K (seat_of q.node);
+      filled = filled_none (new_of q) q.sits;
+      few = (omega arith, omega arith);
+      slots = (
+        ap (λ (c : NodeCell). length c.entries) is,
+        ap (λ (c : NodeCell). length c.children) is,
+      );
+      head = record { data_is = refl; nodes_is = refl; level_is = refl; maps = (H q.node).0 };
+      ahead = (H q.node).1;
+    };
+  }
 
-    -- ---- nothing there
+  module _ {d n i j : ℕ} {node : NodeCell} {s : Cursor} where
+    -- what is still to come
+    module _ {U : Tables X Y} {q : MayBuild K V kb vb T r height}
+        (B : PartlyBuilt q d n i j node s U) where
+      entries_left : ones d ≡ i + length B.left
+      entries_left =
+          let l = length-take-le i node.entries (omega (arith, B.few.0, B.slots.0)) in
+          omega (arith, B.head.maps.entries, l, own_many _ B.filled)
 
-    pub midst_nothing : one (falls K V bs h m q.sound g) ≡ false → many (falls K V bs h m q.sound g) ≡ false → Midst (g + 1) (with_branch hand g Nothing) single child U
-    midst_nothing no' none' =
-        let e : part_at g ≡ [] = sym (falls_is g) ∙ no_settings _ no' none' in
-        record {
-          turned = turned_more K kb vb n h p [] m T q.notes q.roots q.in_hand q.deep g hand U I.turned small Nothing U
-              (subst (λ (w : Map). Built K kb vb n h (p ++ (g ∷ [])) w (portion K n h (p ++ (g ∷ [])) [] w) U N R E Nothing U) (sym e)
-              (record { notes = N; sits = I.turned.gathered.sits; grown = grown_none n (Under (p ++ (g ∷ []))) (Led K (p ++ (g ∷ []))) U N; is = refl; cost = omega arith; entry_cost = omega arith }));
-          singles = singles_same K V bs h m q.sound at q.here g small single I.singles no';
-          kids = kids_same K V bs h m q.sound at q.here g small child I.kids none';
+      children_left : ones n ≡ j + length B.gs
+      children_left =
+          let l = length-take-le j node.children (omega (arith, B.few.1, B.slots.1)) in
+          omega (arith, B.head.maps.children, l, branches_many _ B.filled)
+
+    -- ---- an entry
+
+    module _ (L : Lent X Y) (I : Building K V kb vb T r height d n i j node s (tables_of L))
+        (some : i < ones d) where
+      module _ (q : MayBuild K V kb vb T r height) where
+        abbrev B : PartlyBuilt q d n i j node s (tables_of L)
+        B = I.so_far q
+
+        first : (z : Setting) × ((left : Map) × (B.left ≡ z ∷ left))
+        first = uncons B.left (omega (arith, some, entries_left B))
+
+        filled_first : InSlots q i j node (tables_of L) (first.0 ∷ first.1.0) B.gs
+        filled_first =
+            subst (λ (l : Map). InSlots q i j node (tables_of L) l B.gs) first.1.1 B.filled
+
+        its_entry : EntryAhead K V s
+        its_entry = record {
+          setting = first.0;
+          rest = next q.node first.1.0 B.gs;
+          reads =
+              all_mem (Readable K V) (own K (seat_of q.node)) first.0 (own_reads q.node)
+              (left_own _ filled_first first.0 (Memᴰ.head refl));
+          ahead = record {
+            within = B.ahead.within;
+            is = B.ahead.is ∙ ap (λ (l : Map). next q.node l B.gs) first.1.1
+                ∙ append_assoc (entry first.0) (flat entry first.1.0) _;
+          };
         }
 
-    -- ---- an entry there
+        pub building_make : MayMake K V s L.entries
+        building_make = record {
+          entry = its_entry;
+          some = omega (arith, entries_fit _ filled_first q.entries_fit);
+          heap = (
+            L.nodes.cells.now,
+            (take i node.entries ++ q.in_hand, B.filled.hand.sits.entries),
+          );
+        }
 
-    module _ (yes' : one (falls K V bs h m q.sound g) ≡ true) where
-      pub here_entry : EntryAt K V bs single
-      here_entry = single_at K V bs h m q.sound at q.here g small single I.singles yes'
-
-      alone : part_at g ≡ here_entry.setting ∷ []
-      unfolding here_entry
-      alone = sym (falls_is g) ∙ single_is K V bs h m q.sound at q.here g small single I.singles yes'
-
-      shares : portion K n h (p ++ (g ∷ [])) [] (part_at g) ≡ entry_from n [] here_entry.setting
-      shares = ap (portion K n h (p ++ (g ∷ [])) []) alone ∙ portion_one K n h (p ++ (g ∷ [])) [] here_entry.setting low
-
-      pub midst_making : Making K V bs single U.entries U.entry_free U.entry_spare
-      midst_making = record {
-        entry_at = here_entry;
-        some = omega (arith, entry_room K kb vb n h p [] m T q.notes q.roots q.in_hand q.deep g hand U I.turned small q.entry_room, ap (λ (x : Shared). x.new_entries) shares);
-        heap = (U.nodes, (E, I.turned.gathered.sits.entries));
+      pub building_entry : {e : ℕ} {t : Cursor} {u : Table (EntryCell X Y)}
+          → EntryRead K V kb vb s L.entries e t u → i < 16
+          → Building K V kb vb T r height d n (i + 1) j (with_entry node i e) t
+          (tables_of (record { nodes = L.nodes; entries = u }))
+      unfolding its_entry
+      building_entry {e} {t} {u} D few = record {
+        so_far = λ q.
+            let W : Tables X Y = tables_of (record { nodes = L.nodes; entries = u }) in
+            record {
+              left = (first q).1.0;
+              gs = (B q).gs;
+              filled =
+                  subst (λ (l : List ℕ). Filled (new_of q) (first q).1.0 (B q).gs l
+                  (take j node.children) W)
+                  (sym (take_more_set node.entries i e (omega (arith, (B q).slots.0))))
+                  (filled_entry _ (filled_first q) D.key D.value (D.setting (its_entry q)) e W
+                  (refl, refl, refl) D.made);
+              few = (omega arith, (B q).few.1);
+              slots = (length-set node.entries i e ∙ (B q).slots.0, (B q).slots.1);
+              head = (B q).head;
+              ahead = D.onward (its_entry q);
+            };
       }
 
-      pub midst_entry :
-          (id : EntryId) (W : Tables X Y) → NodesStay U W → MadeOf K V kb vb bs single id.0 U.entries U.entry_free U.entry_spare W.entries W.entry_free W.entry_spare
-          → Midst (g + 1) (with_branch hand g (Entry id)) (single + size K V) child W
-      midst_entry id W stay done =
-          let is : record { key = kb done.key; value = vb done.value } ≡ here_entry.setting = done.setting here_entry in
-          let led : Led K (p ++ (g ∷ [])) (kb done.key) = subst (λ (k : List ℕ). Led K (p ++ (g ∷ [])) k) (sym (ap (λ (x : Setting). x.key) is)) (subst (AllByRecursion (λ s. Led K (p ++ (g ∷ [])) s.key)) alone (led_on g)).0 in
-          record {
-            turned = turned_more K kb vb n h p [] m T q.notes q.roots q.in_hand q.deep g hand U I.turned small (Entry id) W
-                (subst (λ (s : Shared). Built K kb vb n h (p ++ (g ∷ [])) (part_at g) s U N R E (Entry id) W) (sym shares)
-                (subst (λ (w : Map). Built K kb vb n h (p ++ (g ∷ [])) w (entry_from n [] here_entry.setting) U N R E (Entry id) W) (sym alone)
-                (subst (λ (s : Setting). Built K kb vb n h (p ++ (g ∷ [])) (s ∷ []) (entry_from n [] s) U N R E (Entry id) W) is
-                (entry_built K kb vb n h low (p ++ (g ∷ [])) U N R E I.turned.gathered.sits clear_on done.key done.value led id W stay done.made))));
-            singles = singles_more K V bs h m q.sound at q.here g small single I.singles yes';
-            kids = kids_same K V bs h m q.sound at q.here g small child I.kids (one_not_many _ yes');
-          }
+    module _ {U : Tables X Y} (I : Building K V kb vb T r height d n i j node s U)
+        (all : ones d ≤ i) where
+      -- with all the entries
+      filled_with : (q : MayBuild K V kb vb T r height) (gs : List ℕ) → (I.so_far q).gs ≡ gs
+          → InSlots q i j node U [] gs × Ahead s (next q.node [] gs)
+      filled_with q gs e =
+          let B = I.so_far q in
+          let none : B.left ≡ [] = none_long B.left (omega (arith, all, entries_left B)) in (
+            subst (λ (l : Map). InSlots q i j node U l gs) none
+                (subst (InSlots q i j node U B.left) e B.filled),
+            subst (Ahead s) (ap₂ (next q.node) none e) B.ahead,
+          )
 
-    -- ---- a child there
+      -- ---- a child
 
-    module _ (yes' : many (falls K V bs h m q.sound g) ≡ true) where
-      pub midst_may : MayBuild K V kb vb U bs child h
-      midst_may = record {
-        call = n;
-        prefix = p ++ (g ∷ []);
-        part = part_at g;
-        notes = N;
-        roots = R;
-        in_hand = E;
-        sits = I.turned.gathered.sits;
-        clear = clear_on;
-        deep = omega (arith, length_push p g, q.deep);
-        sound = subst (Sound K V) (falls_is g) (falls_sound K V bs h m q.sound g);
-        led = led_on g;
-        several = many_bushy h (part_at g) low (ap many (sym (falls_is g)) ∙ yes');
-        calm = ap (λ (d : ℕ). crowd K h d (part_at g)) (let z : length (p ++ (g ∷ [])) ≡ suc (length p) = omega (arith, length_push p g) in z) ∙ crowd_at K h (length p) m g q.calm small;
-        room = node_room K kb vb n h p [] m T q.notes q.roots q.in_hand q.deep g hand U I.turned small q.room;
-        entry_room = entry_room K kb vb n h p [] m T q.notes q.roots q.in_hand q.deep g hand U I.turned small q.entry_room;
-        here = subst (λ (w : Map). Here bs child (node K h w)) (falls_is g) (kid_here K V bs h m q.sound at q.here g small child I.kids yes');
-      }
+      module _ (some : j < ones n) where
+        module _ (q : MayBuild K V kb vb T r height) where
+          open_child : (g : ℕ) × ((gs : List ℕ) × ((I.so_far q).gs ≡ g ∷ gs))
+          open_child = uncons (I.so_far q).gs (omega (arith, some, children_left (I.so_far q)))
 
-      pub midst_child : (r : Branch) (to : ℕ) (W : Tables X Y) → NodeBuilt K V kb vb U bs child h r to W → one (falls K V bs h m q.sound g) ≡ false → Midst (g + 1) (with_branch hand g r) single to W
-      unfolding midst_may
-      midst_child r to W done no' = record {
-        turned = turned_more K kb vb n h p [] m T q.notes q.roots q.in_hand q.deep g hand U I.turned small r W (done.built midst_may);
-        singles = singles_same K V bs h m q.sound at q.here g small single I.singles no';
-        kids = kids_more K V bs h m q.sound at q.here g small child I.kids yes' to (done.onward midst_may ∙ ap (λ (w : Map). child + length (node K h w)) (sym (falls_is g)));
-      }
+          abbrev g : ℕ
+          g = open_child.0
 
-    pub midst_bits : (hand.datamap < 2 ^ g) × (hand.nodemap < 2 ^ g)
-    midst_bits = bits_left K kb vb n h p [] m T q.notes q.roots q.in_hand q.deep g hand U I.turned small
+          abbrev with_next : InSlots q i j node U [] (g ∷ open_child.1.0)
+              × Ahead s (next q.node [] (g ∷ open_child.1.0))
+          with_next = filled_with q (g ∷ open_child.1.0) open_child.1.1
 
-  -- ---- all sixteen
+          branch : 0 < occ g (branches K (seat_of q.node))
+          branch = left_branch _ with_next.0 g (occ_head g open_child.1.0)
 
-  module _ (hand : NodeCell) (single child : ℕ) (U : Tables X Y) (I : Midst 16 hand single child U) where
-    pub midst_ready : Assembling hand (suc h) U.nodes U.free U.spare
-    midst_ready = turned_assembles K kb vb n h p [] m T q.notes q.roots q.in_hand q.deep hand U I.turned (λ b. refl) q.room
+          may : MayBuild K V kb vb U s (height - 1)
+          unfolding child_ahead
+          may =
+              let f : (Shared → ℕ) → ℕ → ℕ = λ z x. z (share (new_of q) x) in
+              let k = child_shares q.node g branch q.call in
+              record {
+                node = child_ahead q.node g branch s open_child.1.0 with_next.1;
+                call = q.call;
+                notes = with_next.0.hand.notes;
+                roots = take j node.children ++ q.roots;
+                in_hand = take i node.entries ++ q.in_hand;
+                sits = with_next.0.hand.sits;
+                clear = filled_clear _ with_next.0;
+                led = led_on K q.node.part q.node.prefix g q.led;
+                nodes_fit =
+                    omega (
+                      arith,
+                      ap (λ (x : Shared). x.new_nodes) k,
+                      nodes_fit _ with_next.0 q.nodes_fit,
+                      sum_by-cons (f (λ x. x.new_nodes)) g open_child.1.0,
+                    );
+                entries_fit =
+                    omega (
+                      arith,
+                      ap (λ (x : Shared). x.new_entries) k,
+                      entries_fit _ with_next.0 q.entries_fit,
+                      sum_by-cons (f (λ x. x.new_entries)) g open_child.1.0,
+                    );
+              }
 
-    pub midst_built : (r : Branch) (W : Tables X Y) → EntriesStay U W → Assembled hand (suc h) r U.nodes U.free U.spare W.nodes W.free W.spare
-        → Built K kb vb n (suc h) p m (portion K n (suc h) p [] m) T q.notes q.roots q.in_hand r W
-    midst_built r W stay done = turned_assembled K kb vb n h p [] m T q.notes q.roots q.in_hand q.deep hand U I.turned (λ b. refl) q.clear r W stay done
+          pub building_may : MayBuild K V kb vb U s (height - 1) × (0 < height)
+          building_may = (may, child_tall q.node g branch)
 
-    pub midst_to : child ≡ at + length (node K (suc h) m)
-    midst_to = kids_end K V bs h m q.sound at q.here child I.kids
+        pub building_child : {c : NodeId} {t : Cursor} {W : Tables X Y}
+            → NodeBuilt K V kb vb U s (height - 1) c t W → j < 16
+            → Building K V kb vb T r height d n i (j + 1) (with_child node j c.0) t W
+        unfolding may child_ahead
+        building_child {c} {t} {W} D few = record {
+          so_far = λ q.
+              let B = I.so_far q in
+              record {
+                left = [];
+                gs = (open_child q).1.0;
+                filled =
+                    subst (λ (l : List ℕ). Filled (new_of q) [] (open_child q).1.0
+                    (take i node.entries) l W)
+                    (sym (take_more_set node.children j c.0 (omega (arith, B.slots.1))))
+                    (filled_child _ (with_next q).0 c W (D.built (may q)));
+                few = (B.few.0, omega arith);
+                slots = (B.slots.0, length-set node.children j c.0 ∙ B.slots.1);
+                head = B.head;
+                ahead = D.onward (may q);
+              };
+        }
 
--- ---- whatever the part is, at whatever level
+      -- ---- the node
 
-module _ {X Y : Type 0} (K : KeyKind) (V : ValueKind) (kb : X → List ℕ) (vb : Y → List ℕ) (T : Tables X Y) (bs : List ℕ) (at level : ℕ) where
-  pub record Underway (g : ℕ) (hand : NodeCell) (single child : ℕ) (U : Tables X Y) : Type 0 where
-    pub so_far : (h : ℕ) → level ≡ suc h → (q : MayBuild K V kb vb T bs at (suc h)) → Midst K V kb vb T bs at h q g hand single child U
+      module _ (whole : ones n ≤ j) where
+        module _ (q : MayBuild K V kb vb T r height) where
+          abbrev C : PartlyBuilt q d n i j node s U
+          C = I.so_far q
 
-  module _ (tall : 0 < level) where
-    abbrev h : ℕ
-    h = level - 1
+          all_of : InSlots q i j node U [] [] × Ahead s q.node.rest
+          all_of = filled_with q [] (none_long C.gs (omega (arith, whole, children_left C)))
 
-    up : level ≡ suc h
-    up = omega arith
+          its_children : kids node ≡ take j node.children
+          its_children =
+              let e : ones node.nodemap ≡ j = ap ones C.head.nodes_is
+              ∙ omega (arith, whole, children_left C) in
+              listed_take node.nodemap node.children (omega (arith, e, C.few.1, C.slots.1))
+              ∙ ap (λ (k : ℕ). take k node.children) e
 
-    raised : MayBuild K V kb vb T bs at level → MayBuild K V kb vb T bs at (suc h)
-    raised q = subst (MayBuild K V kb vb T bs at) up q
+          its_entries : singles node ≡ take i node.entries
+          its_entries =
+              let e : ones node.datamap ≡ i = ap ones C.head.data_is
+              ∙ omega (arith, all, entries_left C) in
+              listed_take node.datamap node.entries (omega (arith, e, C.few.0, C.slots.0))
+              ∙ ap (λ (k : ℕ). take k node.entries) e
 
-    pub maps_fit : MayBuild K V kb vb T bs at level → at + 5 ≤ length bs
-    maps_fit q = let r = raised q in maps_inside K V bs h r.part r.sound at r.here
+          pub building_ready : (0 < U.spare)
+              × (((R : List ℕ) × Nodes U.nodes U.free U.spare (kids node ++ R))
+              × ((k : ℕ) → 0 < occ k (kids node) → (cell U.nodes k).level < node.level))
+          building_ready = (
+            omega (arith, nodes_fit _ all_of.0 q.nodes_fit),
+            (
+              (
+                q.roots,
+                subst (λ (l : List ℕ). Nodes U.nodes U.free U.spare (l ++ q.roots))
+                    (sym its_children) all_of.0.hand.sits.nodes,
+              ),
+              λ k o. omega (
+                arith,
+                filled_lower _ all_of.0 k
+                    (subst (λ (l : List ℕ). 0 < occ k l) its_children o),
+                C.head.level_is,
+              ),
+            ),
+          )
 
-    pub maps_long : MayBuild K V kb vb T bs at level → length (slice_range bs (at + 1) (at + 5)) ≡ 4
-    maps_long q = let r = raised q in ap length (maps_are K V bs h r.part r.sound at r.here)
-
-    module _ (d e : ℕ) (M : HasMaps bs at d e) where
-      module _ (h : ℕ) (q : MayBuild K V kb vb T bs at (suc h)) where
-        data_is : d ≡ bits one (parts K (7 - h) q.part)
-        data_is = M.entries ∙ datamap_is K V bs h q.part q.sound at q.here _ refl
-
-        nodes_are : e ≡ bits many (parts K (7 - h) q.part)
-        nodes_are = M.nodes ∙ nodemap_is K V bs h q.part q.sound at q.here _ refl
-
-        is_one : (g : ℕ) → g < 16 → (b : Bool) → b ≡ bit d g → b ≡ one (falls K V bs h q.part q.sound g)
-        is_one g small b f = f ∙ ap (λ (i : ℕ). bit i g) data_is ∙ bit_of one (falls K V bs h q.part q.sound) g small
-
-        is_many : (g : ℕ) → g < 16 → (b : Bool) → b ≡ bit e g → b ≡ many (falls K V bs h q.part q.sound g)
-        is_many g small b f = f ∙ ap (λ (i : ℕ). bit i g) nodes_are ∙ bit_of many (falls K V bs h q.part q.sound) g small
-
-      -- where the children begin
-      pub kids_fit : MayBuild K V kb vb T bs at level → (z : ℕ) → z ≡ size K V → at + 5 + ones d * z ≤ length bs
-      kids_fit q z f =
-          let r = raised q in
-          let i : ones d * z ≡ length (singles_from K V bs h r.part r.sound 0) = ap (λ (i : ℕ). ones i * z) (data_is h r) ∙ ap (λ (i : ℕ). ones (bits one (parts K (7 - h) r.part)) * i) f ∙ kids_begin K V bs h r.part r.sound at r.here in
-          omega (arith, i, node_long K V bs h r.part r.sound at r.here, here_fits bs at (node K (suc h) r.part) r.here (omega arith))
-
-      pub under_begun : (hand : NodeCell) → hand ≡ nothing_in_hand → (z : ℕ) → z ≡ size K V → Underway 0 hand (at + 5) (at + 5 + ones d * z) T
-      under_begun hand is z f = record {
-        so_far = λ h e q. subst (λ (c : NodeCell). Midst K V kb vb T bs at h q 0 c (at + 5) (at + 5 + ones d * z) T) (sym is)
-            (midst_none K V kb vb T bs at h q _
-            (kids_none K V bs h q.part q.sound at q.here _ (ap (λ (i : ℕ). at + 5 + ones i * z) (data_is h q) ∙ ap (λ (i : ℕ). at + 5 + ones (bits one (parts K (7 - h) q.part)) * i) f)));
-      }
-
-      module _ (g : ℕ) (small : g < 16) (hand : NodeCell) (single child : ℕ) (U : Tables X Y) (I : Underway g hand single child U) where
-        pub under_bits : MayBuild K V kb vb T bs at level → (hand.datamap < 2 ^ g) × (hand.nodemap < 2 ^ g)
-        under_bits q = let r = raised q in midst_bits K V kb vb T bs at h r g small hand single child U (I.so_far h up r)
-
-        module _ (b : Bool) (is_data : b ≡ bit d g) where
-          module _ (yes' : b ≡ true) where
-            pub under_making : MayBuild K V kb vb T bs at level → Making K V bs single U.entries U.entry_free U.entry_spare
-            under_making q = let r = raised q in midst_making K V kb vb T bs at h r g small hand single child U (I.so_far h up r) (sym (is_one h r g small b is_data) ∙ yes')
-
-            pub single_fits : MayBuild K V kb vb T bs at level → (z : ℕ) → z ≡ size K V → single + z ≤ length bs
-            single_fits q z f = let r = raised q in omega (arith, entry_inside K V bs single (here_entry K V kb vb T bs at h r g small hand single child U (I.so_far h up r) (sym (is_one h r g small b is_data) ∙ yes')), f)
-
-            pub under_entry :
-                (id : EntryId) (W : Tables X Y) → NodesStay U W → MadeOf K V kb vb bs single id.0 U.entries U.entry_free U.entry_spare W.entries W.entry_free W.entry_spare
-                → (z : ℕ) → z ≡ size K V → (r : Branch) → r ≡ Entry id → (from to : ℕ) → from ≡ single + z → to ≡ child → (S : Tables X Y) → S ≡ W → (next : NodeCell) → next ≡ with_branch hand g r
-                → Underway (g + 1) next from to S
-            under_entry id W stay done z f r is from to e e' S same next up' =
-                subst (Underway (g + 1) next from to) (sym same) (record {
-                  so_far = λ h w q.
-                      subst (λ (c : NodeCell). Midst K V kb vb T bs at h q (g + 1) c from to W) (sym (up' ∙ ap (with_branch hand g) is))
-                      (subst (λ (i : ℕ). Midst K V kb vb T bs at h q (g + 1) (with_branch hand g (Entry id)) i to W) (sym (e ∙ ap (λ (i : ℕ). single + i) f))
-                      (subst (λ (i : ℕ). Midst K V kb vb T bs at h q (g + 1) (with_branch hand g (Entry id)) (single + size K V) i W) (sym e')
-                      (midst_entry K V kb vb T bs at h q g small hand single child U (I.so_far h w q) (sym (is_one h q g small b is_data) ∙ yes') id W stay done)));
-                })
-
-          module _ (no' : b ≡ false) (c : Bool) (is_nodes : c ≡ bit e g) where
-            pub under_nothing : c ≡ false → (r : Branch) → r ≡ Nothing → (from to : ℕ) → from ≡ single → to ≡ child → (S : Tables X Y) → S ≡ U → (next : NodeCell) → next ≡ with_branch hand g r
-                → Underway (g + 1) next from to S
-            under_nothing none' r is from to e e' S same next up' =
-                subst (Underway (g + 1) next from to) (sym same) (record {
-                  so_far = λ h w q.
-                      subst (λ (x : NodeCell). Midst K V kb vb T bs at h q (g + 1) x from to U) (sym (up' ∙ ap (with_branch hand g) is))
-                      (subst (λ (i : ℕ). Midst K V kb vb T bs at h q (g + 1) (with_branch hand g Nothing) i to U) (sym e)
-                      (subst (λ (i : ℕ). Midst K V kb vb T bs at h q (g + 1) (with_branch hand g Nothing) single i U) (sym e')
-                      (midst_nothing K V kb vb T bs at h q g small hand single child U (I.so_far h w q) (sym (is_one h q g small b is_data) ∙ no') (sym (is_many h q g small c is_nodes) ∙ none'))));
-                })
-
-            module _ (yes' : c ≡ true) where
-              pub under_may : MayBuild K V kb vb T bs at level → MayBuild K V kb vb U bs child (level - 1)
-              under_may q = let r = raised q in midst_may K V kb vb T bs at h r g small hand single child U (I.so_far h up r) (sym (is_many h r g small c is_nodes) ∙ yes')
-
-              pub under_child :
-                  (x : Branch) (after : ℕ) (W : Tables X Y) → NodeBuilt K V kb vb U bs child (level - 1) x after W
-                  → (r : Branch) → r ≡ x → (from to : ℕ) → from ≡ single → to ≡ after → (S : Tables X Y) → S ≡ W → (next : NodeCell) → next ≡ with_branch hand g r
-                  → Underway (g + 1) next from to S
-              under_child x after W done r is from to e e' S same next up' =
-                  subst (Underway (g + 1) next from to) (sym same) (record {
-                    so_far = λ h w q.
-                        let done' = subst (λ (l : ℕ). NodeBuilt K V kb vb U bs child l x after W) (let z : level - 1 ≡ h = omega (arith, w) in z) done in
-                        subst (λ (y : NodeCell). Midst K V kb vb T bs at h q (g + 1) y from to W) (sym (up' ∙ ap (with_branch hand g) is))
-                        (subst (λ (i : ℕ). Midst K V kb vb T bs at h q (g + 1) (with_branch hand g x) i to W) (sym e)
-                        (subst (λ (i : ℕ). Midst K V kb vb T bs at h q (g + 1) (with_branch hand g x) single i W) (sym e')
-                        (midst_child K V kb vb T bs at h q g small hand single child U (I.so_far h w q) (sym (is_many h q g small c is_nodes) ∙ yes') x after W done' (sym (is_one h q g small b is_data) ∙ no'))));
-                  })
-
-    module _ (g : ℕ) (all : g ≡ 16) (hand : NodeCell) (single child : ℕ) (U : Tables X Y) (I : Underway g hand single child U) where
-      at_end : (h : ℕ) → level ≡ suc h → (q : MayBuild K V kb vb T bs at (suc h)) → Midst K V kb vb T bs at h q 16 hand single child U
-      at_end h e q = subst (λ (i : ℕ). Midst K V kb vb T bs at h q i hand single child U) all (I.so_far h e q)
-
-      pub under_ready : MayBuild K V kb vb T bs at level → Assembling hand level U.nodes U.free U.spare
-      under_ready q = let r = raised q in subst (λ (l : ℕ). Assembling hand l U.nodes U.free U.spare) (sym up) (midst_ready K V kb vb T bs at h r hand single child U (at_end h up r))
-
-      pub under_done : (r : Branch) (W : Tables X Y) → EntriesStay U W → Assembled hand level r U.nodes U.free U.spare W.nodes W.free W.spare → NodeBuilt K V kb vb T bs at level r child W
-      under_done r W stay done = subst (λ (l : ℕ). NodeBuilt K V kb vb T bs at l r child W) (sym up) (record {
-        built = λ q. midst_built K V kb vb T bs at h q hand single child U (at_end h up q) r W stay (subst (λ (l : ℕ). Assembled hand l r U.nodes U.free U.spare W.nodes W.free W.spare) up done);
-        onward = λ q. midst_to K V kb vb T bs at h q hand single child U (at_end h up q);
-      })
+        pub building_done : {c : NodeId} {W : Tables X Y}
+            → NodeMade c.0 (node_cell node node.level) U.nodes U.free U.spare W.nodes W.free W.spare
+            → EntriesStay U W → NodeBuilt K V kb vb T r height c s W
+        building_done {c} {W} made stay = record {
+          built = λ q. filled_node _ (all_of q).0 c (node_cell node node.level) W made stay
+              (its_children q) (its_entries q) (omega arith) (C q).head.level_is
+              (λ short. (C q).head.data_is ∙ (C q).head.maps.data_bits short)
+              (λ short. (C q).head.nodes_is ∙ (C q).head.maps.node_bits short);
+          onward = λ q. (all_of q).1;
+        }

@@ -1,10 +1,7 @@
-pub mod Rows
-pub mod Operands
-pub mod Layouts
-pub mod Leaves
-pub mod Tallying
-pub mod Tallies
-pub mod Wholes
-pub mod Rowing
-pub mod Building
-pub mod Roots
+mod Readers
+mod Entries
+mod Nodes
+mod Tallies
+mod Building
+mod Images
+mod Roots

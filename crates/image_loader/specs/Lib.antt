@@ -1,3 +1,4 @@
-pub mod Rows
+pub mod Heads
+pub mod Ahead
 pub mod Counts
 pub mod Loads

@@ -1,64 +1,45 @@
 // How many nodes and entries an image takes: a pass that reads, and changes nothing.
-ghost use Rattle.image_loader.specs.Counts.{NodeAt, NodeCounted, IsImage, CellsCounted};
+ghost use Rattle.image_loader.specs.Ahead.{NodeAhead};
+ghost use Rattle.image_loader.specs.Counts.{NodeCounted, IsImage, CellsCounted};
 
-use super::entries::{entry_size, operands};
-use image_reader::read_maps;
+use super::heads::{past_header, read_head};
+use image_reader::Reader;
 use kinds::{Key, Value};
 use model::END;
-use tables::{Digit, has_digit};
 
-// So many nodes and entries of an image, and where it goes on after them.
+// So many cells of the two tables.
 #[derive(Clone, Copy)]
-pub(crate) struct Stretch {
+pub(crate) struct Cells {
     nodes: usize,
     entries: usize,
-    to: usize,
 }
 
-// The node at an offset, with all below it.
-fn count_node<K: Key, V: Value>(image: &[u8], at: usize, level: u8) -> Stretch
-    requires { NodeAt K.kind V.kind image.now at level }
-    ensures { NodeCounted K.kind V.kind image.now at level result }
+// The cells of the node that comes next, with all below it. Its entries are passed over.
+fn count_node<K: Key, V: Value>(reader: &mut Reader, height: u8) -> Cells
+    requires { NodeAhead K.kind V.kind reader.old height }
+    ensures { NodeCounted K.kind V.kind reader.old height reader.new result }
 {
-    let size = entry_size::<K, V>();
-    if level == 0 {
-        let entries = usize::from(image[at + 1]);
-        return Stretch {
-            nodes: 1,
-            entries,
-            to: at + 2 + entries * size,
-        };
+    let (datamap, nodemap) = read_head(reader, height);
+    let entries = datamap.count_ones() as usize;
+    reader.skip(entries * (1 + K::WIDTH + V::WIDTH));
+    let mut cells = Cells { nodes: 1, entries };
+    for _child in 0..nodemap.count_ones() {
+        let below = count_node::<K, V>(reader, height - 1);
+        cells.nodes += below.nodes;
+        cells.entries += below.entries;
     }
-    let (datamap, nodemap) = read_maps(operands(image, at, 5));
-    let mut sum = Stretch {
-        nodes: 1,
-        entries: 0,
-        to: at + 5 + datamap.count_ones() as usize * size,
-    };
-    for number in 0u8..16 {
-        let digit = Digit { number };
-        if has_digit(datamap, digit) {
-            sum.entries += 1;
-        } else if has_digit(nodemap, digit) {
-            let child = count_node::<K, V>(image, sum.to, level - 1);
-            sum = Stretch {
-                nodes: sum.nodes + child.nodes,
-                entries: sum.entries + child.entries,
-                to: child.to,
-            };
-        }
-    }
-    sum
+    cells
 }
 
-// The nodes and the entries that loading an image takes.
+/// The nodes and the entries that loading an image takes.
 pub fn count_cells<K: Key, V: Value>(image: &[u8]) -> (usize, usize)
     requires { IsImage K.kind V.kind image.now }
     ensures { CellsCounted K.kind V.kind image.now result.0 result.1 }
 {
-    if image[4] == END {
+    let mut reader = past_header(image);
+    if reader.next_byte() == END {
         return (0, 0);
     }
-    let root = count_node::<K, V>(image, 4, 8);
+    let root = count_node::<K, V>(&mut reader, 8);
     (root.nodes, root.entries)
 }

@@ -1,8 +1,8 @@
-// Images as versions in new cells: how many cells that takes, and building them.
+// An image that was judged, as a version in new cells: how many it takes, and building it.
 #![tactic(auto)]
 
 mod counting;
-mod entries;
+mod heads;
 mod loading;
 
 pub use counting::count_cells;

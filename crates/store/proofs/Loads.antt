@@ -108,8 +108,8 @@ module _ {X Y : Type 0} (K : KeyKind) (V : ValueKind) (kb : X → List ℕ) (vb 
           in_hand = [];
           sits = rep.sits;
           clear = clear_now K V kb vb S a rep (Under []) (Led K []);
-          room = subst (λ (z : Shared). z.new_nodes ≤ S.tables.spare) (portion_root K (a.calls + 1) [] m) (le_of nodes _ _ nodes_are p);
-          entry_room = subst (λ (z : Shared). z.new_entries ≤ S.tables.entry_spare) (portion_root K (a.calls + 1) [] m) (le_of entries _ _ entries_are q);
+          nodes_fit = subst (λ (z : Shared). z.new_nodes ≤ S.tables.spare) (portion_root K (a.calls + 1) [] m) (le_of nodes _ _ nodes_are p);
+          entries_fit = subst (λ (z : Shared). z.new_entries ≤ S.tables.entry_spare) (portion_root K (a.calls + 1) [] m) (le_of entries _ _ entries_are q);
         }
 
         pub loads : (r : Branch) (U : Tables X Y) → Loaded K V kb vb S.tables bs r U

@@ -1,8 +1,14 @@
+use Rattle.std.proofs.Common.{◌∙◌}
 use Rattle.image_loader.proofs.Roots.{root_may, loaded_some}
 use Rattle.image_loader.proofs.loading.load.Goals as goal
 
-pub build_node-root-requires : goal.build_node-root-requires
-build_node-root-requires g c = root_may _ _ _ _ _ _ c.if-image-eq-END.false c.requires
+pub build_node-requires : goal.build_node-requires
+build_node-requires g c =
+    let h = c.past_header-reader.ensures in
+    root_may _ h.image h.at (λ e. c.if-next_byte-eq-END.false (c.next_byte.ensures ∙ e)) c.requires
 
 pub returns : goal.returns
-returns g c = loaded_some _ _ _ _ _ _ c.if-image-eq-END.false _ _ _ c.build_node-root.ensures
+returns g c =
+    let h = c.past_header-reader.ensures in
+    loaded_some c.past_header-reader.result h.image h.at
+    (λ e. c.if-next_byte-eq-END.false (c.next_byte.ensures ∙ e)) c.build_node.ensures
