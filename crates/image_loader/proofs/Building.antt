@@ -76,10 +76,10 @@ module _ {X Y : Type 0} {K : KeyKind} {V : ValueKind} {kb : X → List ℕ} {vb 
   }
 
   -- a node has the maps d and n, which are those of the part, and its height
-  pub record Headed (d n datamap nodemap level : ℕ) : Type 0 where
+  pub record Headed (d n datamap nodemap own : ℕ) : Type 0 where
     pub data_is : datamap ≡ d
     pub nodes_is : nodemap ≡ n
-    pub level_is : level ≡ height
+    pub level_is : own ≡ height
     pub maps : HasMaps K (seat_of q.node) d n
 
   -- all but the settings left and the digits gs is in hand, in the first slots of a node
