@@ -15,10 +15,10 @@ bits_fit (negsuc n) h = omega arith
 back : (z : ℤ) → mag z < 2 ^ 15 → to_z w16 (of_z w16 z) ≡ z
 back z h = to_z-of_z w16 z (record { sfits = h })
 
-stamps_one : (s t : ℕ) (x y : ℤ) → s < 2 ^ 32 → t < 2 ^ 32 → stamped s x ≡ stamped t y → s ≡ t
+pub stamps_one : (s t : ℕ) (x y : ℤ) → s < 2 ^ 32 → t < 2 ^ 32 → stamped s x ≡ stamped t y → s ≡ t
 stamps_one s t x y hs ht e = in_bytes_one 4 s t hs ht (ap (take 4) e)
 
-offsets_one : (s t : ℕ) (x y : ℤ) → mag x < 2 ^ 15 → mag y < 2 ^ 15 → stamped s x ≡ stamped t y → x ≡ y
+pub offsets_one : (s t : ℕ) (x y : ℤ) → mag x < 2 ^ 15 → mag y < 2 ^ 15 → stamped s x ≡ stamped t y → x ≡ y
 offsets_one s t x y hx hy e =
     let bits : of_z w16 x ≡ of_z w16 y = in_bytes_one 2 (of_z w16 x) (of_z w16 y) (bits_fit x hx) (bits_fit y hy) (ap (drop 4) e) in
     sym (back x hx) ∙ ap (to_z w16) bits ∙ back y hy

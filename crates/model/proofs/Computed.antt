@@ -6,6 +6,7 @@ use Rattle.model.specs.Cases.{WorkedCases}
 pub worked : WorkedCases
 unfolding sixteen
 worked = record {
+  limits = (refl, (refl, refl));
   path_a_hashes = refl;
   one_id_image = refl;
   empty_image = refl;
@@ -15,6 +16,7 @@ worked = record {
   two_bobbins_nodes = refl;
   two_bobbins_image = refl;
   sixteen_of_one_hash = refl;
+  crowded_first = refl;
   room_for_two = refl;
   no_room_for_two = refl;
   idle_put = refl;

@@ -6,6 +6,7 @@ use Rattle.byte_rows.specs.Texts.{filled}
 use Rattle.kinds.specs.Refusals as refusals
 use Rattle.keys.specs.Keys.{path_kind, id_kind, bobbin_kind}
 use Rattle.values.specs.Values.{limit_kind, register_kind}
+use Rattle.model.specs.declared.limits.TheConstants.{PLACES, MOST_CELLS, MOST_OF_A_HASH}
 use Rattle.model.specs.Maps.{Setting, Map, merge}
 use Rattle.model.specs.Tries.{concat, parts, one, many, at_digit}
 use Rattle.model.specs.Images.{bits, image}
@@ -37,6 +38,14 @@ put_bobbin b = Put 0 (in_bytes 1 b) (in_bytes 4 0)
 -- a node whose one child goes on by digit 0
 abbrev pub only_child : List ℕ
 only_child = 0x4E ∷ 0x00 ∷ 0x00 ∷ 0x00 ∷ 0x01 ∷ []
+
+-- seventeen bobbins of one hash, each put into one draft
+abbrev pub put_seventeen : List Call
+put_seventeen = Open 0 ∷ map put_bobbin (0 ∷ 4 ∷ 8 ∷ 12 ∷ 16 ∷ 20 ∷ 24 ∷ 28 ∷ 32 ∷ 36 ∷ 40 ∷ 44 ∷ 48 ∷ 52 ∷ 56 ∷ 60 ∷ 64 ∷ [])
+
+-- the last is refused with 10
+abbrev pub sixteen_fit : List Answer
+sixteen_fit = done ∷ took 1 1 ∷ (replicate 15 (took 9 1) ++ (refused (refusals.refused 10) ∷ []))
 
 -- ---- three published versions, and what is gathered from them
 
@@ -83,6 +92,8 @@ abbrev pub image_at : Account → ℕ → Option (List ℕ)
 image_at a i = elim (live a i) [ Some v ↦ Some (image id_kind limit_kind v.settings) | None ↦ None ]
 
 pub record WorkedCases : Type 0 where
+  -- 64 places, tables of at most 65,535 cells, at most 16 keys of one hash
+  pub limits : (PLACES ≡ 64) × ((MOST_CELLS ≡ 65535) × (MOST_OF_A_HASH ≡ 16))
   pub path_a_hashes : path_kind.hash (filled 24 (0x61 ∷ [])) ≡ 0xE40C292C
   pub one_id_image :
       image id_kind register_kind (id_register 1 7 (negsuc 2) ∷ [])
@@ -99,10 +110,10 @@ pub record WorkedCases : Type 0 where
       image bobbin_kind limit_kind (bobbin_limit 0 5 ∷ bobbin_limit 4 6 ∷ [])
       ≡ (0x56 ∷ 0x04 ∷ 0x03 ∷ 0x01 ∷ []) ++ concat (replicate 8 only_child)
       ++ (0x43 ∷ 0x02 ∷ 0x45 ∷ 0x00 ∷ 0x00 ∷ 0x00 ∷ 0x00 ∷ 0x05 ∷ 0x45 ∷ 0x04 ∷ 0x00 ∷ 0x00 ∷ 0x00 ∷ 0x06 ∷ 0x5A ∷ 0x00 ∷ 0x00 ∷ 0x00 ∷ 0x02 ∷ [])
-  -- bobbins 0, 4, 8 up to 60 fit together, and 64 is then refused with 10, though no entry is free either
-  pub sixteen_of_one_hash :
-      answers bobbin_kind limit_kind (fresh 18 16) (Open 0 ∷ map put_bobbin (0 ∷ 4 ∷ 8 ∷ 12 ∷ 16 ∷ 20 ∷ 24 ∷ 28 ∷ 32 ∷ 36 ∷ 40 ∷ 44 ∷ 48 ∷ 52 ∷ 56 ∷ 60 ∷ 64 ∷ []))
-      ≡ done ∷ took 1 1 ∷ (replicate 15 (took 9 1) ++ (refused (refusals.refused 10) ∷ []))
+  -- bobbins 0, 4, 8 up to 60 fit together, and 64 is then refused with 10, where an entry is free
+  pub sixteen_of_one_hash : answers bobbin_kind limit_kind (fresh 18 17) put_seventeen ≡ sixteen_fit
+  -- and where none is free either
+  pub crowded_first : answers bobbin_kind limit_kind (fresh 18 16) put_seventeen ≡ sixteen_fit
   pub room_for_two : answers id_kind limit_kind (fresh 3 2) (Open 0 ∷ put_id 0 5 ∷ put_id 16 5 ∷ Free ∷ []) ≡ done ∷ took 1 1 ∷ took 2 1 ∷ spare 1 0 ∷ []
   pub no_room_for_two : answers id_kind limit_kind (fresh 2 2) (Open 0 ∷ put_id 0 5 ∷ put_id 16 5 ∷ []) ≡ done ∷ took 1 1 ∷ refused (refusals.refused 11) ∷ []
   -- a value that is there already is put again at no cost

@@ -11,8 +11,8 @@ use tables::Tables;
 // A clause sees the tables and the places. A store was started, and changed by calls alone.
 #[derive(Drop)]
 pub struct Store<'a, K: Key, V: Value> {
-    pub(crate) tables: Tables<'a, K, V>,
-    pub(crate) places: [Spot; PLACES],
+    pub tables: Tables<'a, K, V>,
+    pub places: [Spot; PLACES],
 }
 
 impl<'a, K: Key, V: Value> Model for Store<'a, K, V> {

@@ -51,6 +51,7 @@ fn calls_of_every_sort(rt: HostRuntime) {
         Call::Put(0, SIXTEEN, FIVE),
         Call::Remove(0, Id { number: 1 }),
         Call::Publish(0),
+        Call::Put(0, ZERO, FIVE),
         Call::OpenFrom(2, 0),
         Call::Put(2, SIXTEEN, SIX),
         Call::Union(2, 0),
@@ -68,6 +69,8 @@ fn calls_of_every_sort(rt: HostRuntime) {
         Answer::Took(2, 1),
         Answer::Took(0, 0),
         Answer::Done,
+        // a published place is no draft
+        Answer::Refused(Refusal::NotADraft),
         Answer::Done,
         Answer::Took(2, 1),
         Answer::Took(0, 0),

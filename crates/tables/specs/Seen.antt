@@ -38,12 +38,15 @@ EntryIsReleased e t u = EntryReleased e t.cells.now t.free t.spare u.cells.now u
 abbrev pub EntriesAreReleased : {K V : Type 0} → List ℕ → Table (EntryCell K V) → Table (EntryCell K V) → Type 0
 EntriesAreReleased xs t u = EntriesReleased xs t.cells.now t.free t.spare u.cells.now u.free u.spare
 
--- of the two tables together
+-- of the two tables, of which the one was t and is now u, the other was e and is now f
 
-abbrev pub AreCleared : {K V : Type 0} → List ℕ → Tables K V → Tables K V → Type 0
-AreCleared xs t u = Cleared xs t.nodes.cells.now t.entries.cells.now t.entries.free t.entries.spare u.nodes.cells.now u.entries.cells.now u.entries.free u.entries.spare
+abbrev pub AreCleared : {K V : Type 0} → List ℕ → Table NodeCell → Table (EntryCell K V) → Table NodeCell → Table (EntryCell K V) → Type 0
+AreCleared xs t e u f = Cleared xs t.cells.now e.cells.now e.free e.spare u.cells.now f.cells.now f.free f.spare
+
+abbrev pub AreReleased : {K V : Type 0} → ℕ → Table NodeCell → Table (EntryCell K V) → Table NodeCell → Table (EntryCell K V) → Type 0
+AreReleased r t e u f = Released r t.cells.now t.free t.spare e.cells.now e.free e.spare u.cells.now u.free u.spare f.cells.now f.free f.spare
+
+-- of the two together
 
 abbrev pub IsReleased : {K V : Type 0} → ℕ → Tables K V → Tables K V → Type 0
-IsReleased r t u =
-    Released r t.nodes.cells.now t.nodes.free t.nodes.spare t.entries.cells.now t.entries.free t.entries.spare
-    u.nodes.cells.now u.nodes.free u.nodes.spare u.entries.cells.now u.entries.free u.entries.spare
+IsReleased r t u = AreReleased r t.nodes t.entries u.nodes u.entries

@@ -1,6 +1,6 @@
 // Giving up a version: its nodes, then the entries of the nodes that nobody holds any more.
 ghost use Rattle.std.specs.Prelude.{◌≡◌, ℕ, ◌<◌, ◌≤◌, List, [], ◌∷◌, ◌++◌, length, count_ones};
-ghost use Rattle.tables.specs.Seen.{NodesOf, EntriesOf, EntriesAreReleased, AreCleared, IsReleased};
+ghost use Rattle.tables.specs.Seen.{NodesOf, EntriesOf, EntriesAreReleased, AreCleared, AreReleased, IsReleased};
 ghost use Rattle.tables.specs.Cells.{cell, singles};
 ghost use Rattle.tables.specs.Heaps.{Entryless};
 ghost use Rattle.tables.specs.Walks.{walk};
@@ -9,7 +9,7 @@ ghost use Rattle.tables.specs.declared.cells.NodeCell.{NodeCell};
 use super::both::Tables;
 use super::cells::{EntryId, NodeCell, NodeId};
 use super::entries::{EntryTable, release_entry};
-use super::nodes::release_nodes;
+use super::nodes::{NodeTable, release_nodes};
 
 // Gives up one holder of each entry of a node.
 fn release_entries_of<K: Copy, V: Copy>(entries: &mut EntryTable<K, V>, node: &NodeCell)
@@ -21,44 +21,62 @@ fn release_entries_of<K: Copy, V: Copy>(entries: &mut EntryTable<K, V>, node: &N
     }
 }
 
+// Gives up the entries of the node in a cell, and tells the next cell of the chain.
+fn clear_cell<K: Copy, V: Copy>(
+    nodes: &mut NodeTable,
+    entries: &mut EntryTable<K, V>,
+    at: usize,
+) -> u16
+    requires inside { at < length nodes.old.cells.now }
+    requires heap { (E : List ℕ) × EntriesOf nodes.old.cells.now entries.old E }
+    ensures next { result ≡ (cell nodes.old.cells.now at).next }
+    ensures chain { (nodes.new.free ≡ nodes.old.free) × (nodes.new.spare ≡ nodes.old.spare) }
+    ensures cleared { AreCleared (at ∷ []) nodes.old entries.old nodes.new entries.new }
+{
+    let old = nodes.cells[at];
+    nodes.cells[at] = NodeCell { datamap: 0, ..old };
+    release_entries_of(entries, &old);
+    old.next
+}
+
+// Gives up the entries of the first so many free cells.
+fn clear_freed<K: Copy, V: Copy>(
+    nodes: &mut NodeTable,
+    entries: &mut EntryTable<K, V>,
+    freed: usize,
+)
+    requires heap { (R : List ℕ) × (NodesOf nodes.old R × (freed ≤ nodes.old.spare)) }
+    requires entries { (E : List ℕ) × EntriesOf nodes.old.cells.now entries.old E }
+    ensures chain { (nodes.new.free ≡ nodes.old.free) × (nodes.new.spare ≡ nodes.old.spare) }
+    ensures cleared { AreCleared (walk (λ i. (cell nodes.old.cells.now i).next) nodes.old.free freed) nodes.old entries.old nodes.new entries.new }
+{
+    let mut at = nodes.free;
+    for _ in 0..freed {
+        at = clear_cell(nodes, entries, at as usize);
+    }
+}
+
+// Gives up one holder of a node. Every node and every entry that nobody holds any more goes to the free cells, down to the deepest level; whatever is still held stays as it was.
+pub fn release<K: Copy, V: Copy>(nodes: &mut NodeTable, entries: &mut EntryTable<K, V>, id: NodeId)
+    requires nodes { (R : List ℕ) × NodesOf nodes.old (id.0 ∷ R) }
+    requires entries { (E : List ℕ) × EntriesOf nodes.old.cells.now entries.old E }
+    requires entryless { Entryless nodes.old.cells.now }
+    ensures { AreReleased id.0 nodes.old entries.old nodes.new entries.new }
+{
+    let before = nodes.spare;
+    release_nodes(nodes, id);
+    let freed = nodes.spare - before;
+    clear_freed(nodes, entries, freed);
+}
+
 impl<'a, K: Copy, V: Copy> Tables<'a, K, V> {
-    // Gives up the entries of the node in a cell, and tells the next cell of the chain.
-    fn clear_cell(&mut self, at: usize) -> u16
-        requires inside { at < length self.old.nodes.cells.now }
-        requires heap { (E : List ℕ) × EntriesOf self.old.nodes.cells.now self.old.entries E }
-        ensures next { result ≡ (cell self.old.nodes.cells.now at).next }
-        ensures chain { (self.new.nodes.free ≡ self.old.nodes.free) × (self.new.nodes.spare ≡ self.old.nodes.spare) }
-        ensures cleared { AreCleared (at ∷ []) self.old self.new }
-    {
-        let old = self.nodes.cells[at];
-        self.nodes.cells[at] = NodeCell { datamap: 0, ..old };
-        release_entries_of(&mut self.entries, &old);
-        old.next
-    }
-
-    // Gives up the entries of the first so many free cells.
-    fn clear_freed(&mut self, freed: usize)
-        requires heap { (R : List ℕ) × (NodesOf self.old.nodes R × (freed ≤ self.old.nodes.spare)) }
-        requires entries { (E : List ℕ) × EntriesOf self.old.nodes.cells.now self.old.entries E }
-        ensures chain { (self.new.nodes.free ≡ self.old.nodes.free) × (self.new.nodes.spare ≡ self.old.nodes.spare) }
-        ensures cleared { AreCleared (walk (λ i. (cell self.old.nodes.cells.now i).next) self.old.nodes.free freed) self.old self.new }
-    {
-        let mut at = self.nodes.free;
-        for _ in 0..freed {
-            at = self.clear_cell(at as usize);
-        }
-    }
-
-    // Gives up one holder of a node. Every node and every entry that nobody holds any more goes to the free cells, down to the deepest level; whatever is still held stays as it was.
+    // The same of the two together.
     pub fn release(&mut self, id: NodeId)
         requires nodes { (R : List ℕ) × NodesOf self.old.nodes (id.0 ∷ R) }
         requires entries { (E : List ℕ) × EntriesOf self.old.nodes.cells.now self.old.entries E }
         requires entryless { Entryless self.old.nodes.cells.now }
         ensures { IsReleased id.0 self.old self.new }
     {
-        let before = self.nodes.spare;
-        release_nodes(&mut self.nodes, id);
-        let freed = self.nodes.spare - before;
-        self.clear_freed(freed);
+        release(&mut self.nodes, &mut self.entries, id);
     }
 }

@@ -1,5 +1,5 @@
 use Rattle.tables.proofs.Clearing.{entries_view, cleared_one}
-use Rattle.tables.proofs.both.Tables.clear_cell.Goals as goal
+use Rattle.tables.proofs.freeing.clear_cell.Goals as goal
 
 pub release_entries_of-requires : goal.release_entries_of-requires
 release_entries_of-requires g c = (_, (_, entries_view _ _ c.requires.inside _ _ _ _ c.requires.heap.1))

@@ -1,9 +1,9 @@
 use Rattle.std.proofs.Common.{arith}
 use Rattle.tables.proofs.Clearing.{more_spare, entries_stay, given_up}
-use Rattle.tables.proofs.both.Tables.release.Goals as goal
+use Rattle.tables.proofs.freeing.release.Goals as goal
 
 pub overflow_sub-freed : goal.overflow_sub-freed
-overflow_sub-freed g c = more_spare _ _ _ _ c.args.self.now.entries.cells.now 0 0 _ _ _ c.release_nodes.ensures _ c.requires.nodes.1
+overflow_sub-freed g c = more_spare _ _ _ _ c.args.entries.now.cells.now 0 0 _ _ _ c.release_nodes.ensures _ c.requires.nodes.1
 
 pub clear_freed-requires-clause-heap : goal.clear_freed-requires-clause-heap
 clear_freed-requires-clause-heap g c = (_, ((c.release_nodes.ensures.nodes _ c.requires.nodes.1).0, omega arith))

@@ -1,7 +1,7 @@
 use Rattle.std.proofs.Common.{refl, sym, ◌∙◌, arith}
 use Rattle.tables.proofs.Walking.{walk_none, after_none}
 use Rattle.tables.proofs.Clearing.{none_cleared, step_inside, one_step, step_on}
-use Rattle.tables.proofs.both.Tables.clear_freed.Goals as goal
+use Rattle.tables.proofs.freeing.clear_freed.Goals as goal
 
 pub loop-init : goal.loop-init
 loop-init g c = (refl, (refl, (sym (after_none _ _), rw walk_none (none_cleared _ _ _ _))))
