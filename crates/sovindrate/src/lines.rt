@@ -18,13 +18,24 @@ pub fn line_of(text: &str) -> Line<'_> {
     let mut words = text
         .split_whitespace()
         .take_while(|word| !word.starts_with('#'));
-    match (words.next(), words.next(), words.next(), words.next()) {
-        (None, _, _, _) => Line::Blank,
-        (Some(key), Some(value), None, _) => Line::Setting { key, value },
-        (Some("sheet"), Some(key_kind), Some(value_kind), None) => Line::Sheet {
-            key_kind,
-            value_kind,
-        },
-        _ => Line::Other,
+    let Some(first) = words.next() else {
+        return Line::Blank;
+    };
+    let Some(second) = words.next() else {
+        return Line::Other;
+    };
+    let Some(third) = words.next() else {
+        return Line::Setting {
+            key: first,
+            value: second,
+        };
+    };
+    if first == "sheet" && words.next().is_none() {
+        Line::Sheet {
+            key_kind: second,
+            value_kind: third,
+        }
+    } else {
+        Line::Other
     }
 }

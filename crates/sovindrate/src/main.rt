@@ -33,17 +33,19 @@ fn input(rt: &HostRuntime, file: Option<&str>) -> Result<String, Fault> {
 // What is printed of a text, which is a script or sheets by its first word.
 fn printed<R: Files + AllocGlobal>(rt: &R, text: &str) -> Result<String, Fault> {
     let heap = rt.alloc();
-    let statements = script::statements(heap, text)?;
-    match statements.as_slice() {
-        [first, lines @ ..] => match first.words.as_slice() {
-            ["store", ..] => running::run_script(rt, first, lines),
-            ["sheet", ..] => report::report(heap, text),
-            _ => Err(Fault::Line {
-                number: first.number,
-                expected: "store KEYKIND VALUEKIND NODES ENTRIES, or sheet KEYKIND VALUEKIND",
-            }),
-        },
-        [] => report::report(heap, text),
+    let lines: Vec<&str> = text.lines().collect(heap)?;
+    let lines = lines.as_slice();
+    match script::first_word(lines) {
+        Some((before, "sheet")) => report::report(heap, lines, before),
+        Some((_, "store")) => {
+            let statements = script::statements(heap, lines)?;
+            running::run_script(rt, statements.as_slice())
+        }
+        Some((before, _)) => Err(Fault::Line {
+            number: before.saturating_add(1),
+            expected: "store KEYKIND VALUEKIND NODES ENTRIES, or sheet KEYKIND VALUEKIND",
+        }),
+        None => report::report(heap, lines, lines.len()),
     }
 }
 

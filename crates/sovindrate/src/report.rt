@@ -1,4 +1,6 @@
 // The sheets of a text, each united and written in key order, and then an account of the whole.
+ghost use Rattle.std.specs.Prelude.{◌≤◌, length, IfOk};
+
 use super::fault::Fault;
 use super::lines::{Line, line_of};
 use super::sheet::Setting;
@@ -8,13 +10,6 @@ use keys::{Bobbin, Id, Path};
 use kinds::{Coded, Key, Refusal, Value};
 use std::alloc::Global;
 use values::{Flags, Limit, Register};
-
-// A line of the text and its number, from 1.
-#[derive(Clone, Copy)]
-struct NumberedLine<'a> {
-    number: usize,
-    says: Line<'a>,
-}
 
 // A line that a kind refused.
 #[derive(Clone, Copy)]
@@ -81,9 +76,8 @@ impl Account {
     fn write_bytes<C: Coded>(&mut self, x: &C) -> Result<(), Fault> {
         let mut row = vec![in self.heap; 0; C::WIDTH]?;
         x.write(row.as_mut_slice());
-        for b in row.iter() {
-            write!(self.out, "{b:02X}")?;
-        }
+        let digits = hex::encode_upper(self.heap, row.as_slice())?;
+        self.out.push_str(digits.as_str())?;
         Ok(())
     }
 
@@ -103,21 +97,31 @@ impl Account {
         Ok(())
     }
 
-    // Unites the lines of a sheet and writes what came of it.
+    // Unites the lines of a sheet, of which the first has the number, and writes what came of it; says how many they are
+    // before the next sheet begins.
     fn unite_sheet<K: Key + Spelled, V: Value + Spelled>(
         &mut self,
-        lines: &[NumberedLine],
-    ) -> Result<(), Fault> {
+        first: usize,
+        lines: &[&str],
+    ) -> Result<usize, Fault>
+        ensures { IfOk result (λ n. n ≤ length lines.now) }
+    {
         let mut settings: Vec<Setting<K, V>> = Vec::new(self.heap);
-        for line in lines {
-            match line.says {
+        let mut many = lines.len();
+        for (i, line) in lines.iter().enumerate() {
+            let number = first.saturating_add(i);
+            match line_of(line) {
                 Line::Blank => {}
                 Line::Setting { key, value } => {
-                    self.add_setting(&mut settings, line.number, key, value)?;
+                    self.add_setting(&mut settings, number, key, value)?;
                 }
-                Line::Sheet { .. } | Line::Other => {
+                Line::Sheet { .. } => {
+                    many = i;
+                    break;
+                }
+                Line::Other => {
                     return Err(Fault::Line {
-                        number: line.number,
+                        number,
                         expected: "KEY VALUE, or sheet KEYKIND VALUEKIND",
                     });
                 }
@@ -129,19 +133,22 @@ impl Account {
         for setting in settings.iter() {
             self.write_setting(setting)?;
         }
-        Ok(())
+        Ok(many)
     }
 
     fn unite_by_value<K: Key + Spelled>(
         &mut self,
         value_kind: &str,
         number: usize,
-        lines: &[NumberedLine],
-    ) -> Result<(), Fault> {
+        lines: &[&str],
+    ) -> Result<usize, Fault>
+        ensures { IfOk result (λ n. n ≤ length lines.now) }
+    {
+        let next = number.saturating_add(1);
         match value_kind {
-            "limit" => self.unite_sheet::<K, Limit>(lines),
-            "flags" => self.unite_sheet::<K, Flags>(lines),
-            "register" => self.unite_sheet::<K, Register>(lines),
+            "limit" => self.unite_sheet::<K, Limit>(next, lines),
+            "flags" => self.unite_sheet::<K, Flags>(next, lines),
+            "register" => self.unite_sheet::<K, Register>(next, lines),
             _ => Err(Fault::Line {
                 number,
                 expected: VALUE_KINDS,
@@ -154,8 +161,10 @@ impl Account {
         key_kind: &str,
         value_kind: &str,
         number: usize,
-        lines: &[NumberedLine],
-    ) -> Result<(), Fault> {
+        lines: &[&str],
+    ) -> Result<usize, Fault>
+        ensures { IfOk result (λ n. n ≤ length lines.now) }
+    {
         write!(self.out, "sheet {key_kind} {value_kind}")?;
         match key_kind {
             "path" => self.unite_by_value::<Path>(value_kind, number, lines),
@@ -168,22 +177,27 @@ impl Account {
         }
     }
 
-    // The lines from each sheet's first to the next sheet are a part; what comes before the first sheet has to be blank.
-    fn unite_all(&mut self, lines: &[NumberedLine]) -> Result<(), Fault> {
-        for part in lines.chunk_by(|_, next| !matches!(next.says, Line::Sheet { .. })) {
-            if let [first, rest @ ..] = part
-                && let Line::Sheet {
+    // A sheet after the other, from the first on, which comes after so many lines.
+    fn unite_all(&mut self, lines: &[&str], before: usize) -> Result<(), Fault> {
+        let mut rest = lines.get(before..).unwrap_or_default();
+        while let [first, after @ ..] = rest {
+            let number = lines.len().saturating_sub(after.len());
+            rest = match line_of(first) {
+                Line::Blank => after,
+                Line::Sheet {
                     key_kind,
                     value_kind,
-                } = first.says
-            {
-                self.unite_by_kinds(key_kind, value_kind, first.number, rest)?;
-            } else if let Some(line) = part.iter().find(|line| !matches!(line.says, Line::Blank)) {
-                return Err(Fault::Line {
-                    number: line.number,
-                    expected: "sheet KEYKIND VALUEKIND",
-                });
-            }
+                } => {
+                    let many = self.unite_by_kinds(key_kind, value_kind, number, after)?;
+                    after.get(many..).unwrap_or_default()
+                }
+                Line::Setting { .. } | Line::Other => {
+                    return Err(Fault::Line {
+                        number,
+                        expected: "sheet KEYKIND VALUEKIND",
+                    });
+                }
+            };
         }
         Ok(())
     }
@@ -202,18 +216,10 @@ impl Account {
     }
 }
 
-// What the program prints of a text of sheets.
-pub fn report(heap: Global, text: &str) -> Result<String, Fault> {
-    let lines: Vec<NumberedLine> = text
-        .lines()
-        .enumerate()
-        .map(|(i, line)| NumberedLine {
-            number: i + 1,
-            says: line_of(line),
-        })
-        .collect(heap)?;
+// What the program prints of the lines of a text of sheets, of which so many that have no words come before the first.
+pub fn report(heap: Global, lines: &[&str], before: usize) -> Result<String, Fault> {
     let mut account = Account::new(heap);
-    account.unite_all(lines.as_slice())?;
+    account.unite_all(lines, before)?;
     account.write_account(lines.len())?;
     Ok(account.out)
 }

@@ -85,12 +85,14 @@ fn run_by_value<R: Files + AllocGlobal, K: Key + Spelled>(
     }
 }
 
-// What the program prints of a script, whose first line is its start.
+// What the program prints of a script, whose first line is its start; nothing of one that has no line.
 pub fn run_script<R: Files + AllocGlobal>(
     rt: &R,
-    first: &Statement,
-    lines: &[Statement],
+    statements: &[Statement],
 ) -> Result<String, Fault> {
+    let [first, lines @ ..] = statements else {
+        return Ok(String::new(rt.alloc()));
+    };
     let number = first.number;
     let start = start_of(first.words.as_slice()).map_err(|expected| Fault::Line {
         number,

@@ -10,10 +10,21 @@ pub struct Statement<'a> {
     pub words: Vec<&'a str>,
 }
 
-// The lines of a text that have words.
-pub fn statements(heap: Global, text: &str) -> Result<Vec<Statement<'_>>, AllocError> {
+// How many of some lines come before the first that has words, and the first of these.
+pub fn first_word<'a>(lines: &[&'a str]) -> Option<(usize, &'a str)> {
+    for (before, line) in lines.iter().enumerate() {
+        let words = line.trim_start();
+        if !words.is_empty() && !words.starts_with('#') {
+            return words.split_whitespace().next().map(|word| (before, word));
+        }
+    }
+    None
+}
+
+// Those of some lines that have words.
+pub fn statements<'a>(heap: Global, lines: &[&'a str]) -> Result<Vec<Statement<'a>>, AllocError> {
     let mut all = Vec::new(heap);
-    for (i, line) in text.lines().enumerate() {
+    for (i, line) in lines.iter().enumerate() {
         let words: Vec<&str> = line
             .split_whitespace()
             .take_while(|word| !word.starts_with('#'))
